@@ -1,0 +1,9 @@
+pub mod Search
+pub mod Lists
+pub mod Periods
+pub mod Bases
+pub mod Counting
+pub mod Offsets
+pub mod Room
+pub mod Turns
+pub mod Checks

@@ -1,0 +1,72 @@
+-- Loops over a list, for lists of any width: a list filled entry by entry, and what is left of a sum, a smallest or a largest number from index i on.
+use Prim.Native.Nat.{ℕ, zero, suc, _+_, _*_, _≤_, _<_, min, max}
+use mathlib.Core.Path.{_≡_, refl, sym, _∙_, ap}
+use mathlib.Core.List.{List, [], _∷_, map}
+use lib.ListN.{length, getD, set, drop, length-set, length-map, drop-of-length-le}
+use lib.Seq.{drop-cons, getD-set-same, getD-set-other, ext-getD}
+use borrow.Author.Count.{below-more}
+use native.Mathlib.Nat.{mul-suc}
+use native.Mathlib.Numerals.{add-one}
+use native.Mathlib.Omega.{arith}
+use Rattle.pinwheel.specs.Search.{total, largest, least, smallest}
+
+module _ {A B : Type 0} (d : A) (e : B) (h : A → B) where
+  pub getD-map : (xs : List A) (i : ℕ) → i < length xs → getD (map h xs) i e ≡ h (getD xs i d)
+  getD-map [] i l = absurd (omega arith)
+  getD-map (x ∷ xs) zero l = refl
+  getD-map (x ∷ xs) (suc i) l = getD-map xs i (omega arith)
+
+  -- The first i entries of ys are those of xs under h.
+  pub record Filled (xs : List A) (i : ℕ) (ys : List B) : Type 0 where
+    pub most : i ≤ length xs
+    pub long : length ys ≡ length xs
+    pub each : (k : ℕ) → k < i → getD ys k e ≡ h (getD xs k d)
+
+  pub filled-start : (xs : List A) (ys : List B) → length ys ≡ length xs → Filled xs 0 ys
+  filled-start xs ys l = record { most = omega arith; long = l; each = λ k m. absurd (omega arith) }
+
+  pub filled-more : (xs : List A) (i : ℕ) (ys : List B) (y : B) → Filled xs i ys → i < length xs → y ≡ h (getD xs i d) → Filled xs (i + 1) (set ys i y)
+  filled-more xs i ys y w l q = record {
+    most = omega arith;
+    long = simp length-set (w .long);
+    each = below-more _ i (λ k m. getD-set-other ys i k y e (λ z. omega arith) ∙ w .each k m) (getD-set-same ys i y e (omega (arith, w .long)) ∙ q);
+  }
+
+  pub filled-end : (xs : List A) (i : ℕ) (ys : List B) → Filled xs i ys → length xs ≤ i → ys ≡ map h xs
+  filled-end xs i ys w l =
+      ext-getD e ys (map h xs) (w .long ∙ sym (length-map xs h)) (λ k m. w .each k (omega (arith, w .long)) ∙ sym (getD-map xs k (omega (arith, w .long))))
+
+-- A sum over a list, of which the first i entries are in; each adds at most `most`.
+pub record Summed (h : ℕ → ℕ) (most : ℕ) (xs : List ℕ) (i sum : ℕ) : Type 0 where
+  pub upto : i ≤ length xs
+  pub rest : sum + total (map h (drop i xs)) ≡ total (map h xs)
+  pub few : sum ≤ most * i
+
+module _ (h : ℕ → ℕ) (most : ℕ) (xs : List ℕ) where
+  pub summed-start : Summed h most xs 0 0
+  summed-start = record { upto = omega arith; rest = omega arith; few = omega arith }
+
+  pub summed-more : (i sum x : ℕ) → Summed h most xs i sum → i < length xs → x ≡ h (getD xs i 0) → x ≤ most → Summed h most xs (i + 1) (sum + x)
+  unfolding total
+  summed-more i sum x s l e m = record { upto = omega arith; rest = rw add-one (more ∙ s .rest); few = rw (add-one, mul-suc) (omega (arith, s .few)) }
+    where
+      more : sum + x + total (map h (drop (suc i) xs)) ≡ sum + total (map h (drop i xs))
+      more = rw (drop-cons xs i 0 l, e) (omega arith)
+
+  pub summed-end : (i sum : ℕ) → Summed h most xs i sum → length xs ≤ i → sum ≡ total (map h xs)
+  unfolding total
+  summed-end i sum s l = let e = rw (drop-of-length-le xs l) at (s .rest) in omega arith
+
+module _ (xs : List ℕ) (i : ℕ) where
+  pub least-more : (x : ℕ) → i < length xs → least (min x (getD xs i 0)) (drop (i + 1) xs) ≡ least x (drop i xs)
+  unfolding least
+  least-more x l = rw (add-one, drop-cons xs i 0)
+
+  pub largest-more : (x : ℕ) → i < length xs → max (max x (getD xs i 0)) (largest (drop (i + 1) xs)) ≡ max x (largest (drop i xs))
+  unfolding largest
+  largest-more x l = rw (add-one, drop-cons xs i 0) (omega arith)
+
+pub smallest-start : (xs : List ℕ) → 1 ≤ length xs → least (getD xs 0 0) (drop 1 xs) ≡ smallest xs
+unfolding smallest
+smallest-start [] l = absurd (omega arith)
+smallest-start (x ∷ xs) l = refl

@@ -1,0 +1,60 @@
+-- `bases::largest_fitting` goes down from the smallest gap: no base passed fits. Where none above the smallest gap / factor does, none at all does.
+use borrow.Author.Needs.{needs}
+use mathlib.Core.Path.{sym, _∙_}
+use native.Mathlib.Omega.{arith}
+use Rattle.pinwheel.proofs.Laws.Bases.{Tried, smallest-within, tried-start, tried-less, tried-hit, tried-end}
+use Rattle.pinwheel.proofs.bases.largest_fitting.Statement.{statement}
+use Rattle.pinwheel.proofs.bases.largest_fitting.Tie as tie
+
+abbrev Inv-loop : tie.InvT-loop
+Inv-loop gaps factor most b₀ tried b = Tried factor gaps b
+
+abbrev μ-loop : tie.MeasureT-loop
+μ-loop gaps factor most b₀ tried b = b
+
+largest-of-requires : tie.Need-largest-of-requires Inv-loop μ-loop
+largest-of-requires c κs = search needs
+
+smallest-of-requires : tie.Need-smallest-of-requires Inv-loop μ-loop
+smallest-of-requires c κs = search needs
+
+div-tried : tie.Need-div-tried Inv-loop μ-loop
+div-tried c = search needs
+
+loop-holds : tie.Need-loop-holds Inv-loop μ-loop
+loop-holds c = tried-start _ (c .before .before .before .pre .0) _ _ (c .smallest-of .ensures)
+
+fits-all-requires : tie.Need-fits-all-requires Inv-loop μ-loop
+fits-all-requires c κs = (c .before .before .before .before .before .pre .0, omega arith, c .before .before .before .largest-of .ensures, c .before .before .before .before .before .pre .1, c .before .before .before .before .before .pre .2, λ i l. omega (arith, c .before .loop .inv .within, smallest-within (c .before .before .before .before .before .args .gaps .now) i l))
+
+returns : tie.Need-returns Inv-loop μ-loop
+returns c = tried-hit _ (c .before .before .before .before .before .before .before .pre .0) _ _ (c .before .before .before .loop .inv) (sym (c .before .fits-all .ensures) ∙ c .if1 .taken)
+
+sub-b : tie.Need-sub-b Inv-loop μ-loop
+sub-b c = search needs
+
+loop-less : tie.Need-loop-less Inv-loop μ-loop
+loop-less c = search needs
+
+loop-again : tie.Need-loop-again Inv-loop μ-loop
+loop-again c = tried-less _ (c .before .before .before .before .before .before .before .pre .0) _ _ (c .before .before .before .loop .inv) (sym (c .before .fits-all .ensures) ∙ c .if1 .left)
+
+returns-2 : tie.Need-returns-2 Inv-loop μ-loop
+returns-2 c = tried-end _ (c .before .before .before .before .before .pre .0) _ _ _ (c .before .loop .inv) (c .before .before .smallest-of .ensures) (c .loop-test .left)
+
+pub largest-fitting-spec : {M : Type 1} → statement M
+largest-fitting-spec =
+    tie.close
+    (tie.spec
+    Inv-loop
+    μ-loop
+    largest-of-requires
+    smallest-of-requires
+    div-tried
+    loop-holds
+    fits-all-requires
+    returns
+    sub-b
+    loop-less
+    loop-again
+    returns-2)

@@ -1,0 +1,93 @@
+-- `deal` answers as the first failing check says. Past them all the base fits, so that each child finds a free offset,
+-- and nothing was written before.
+use borrow.Author.Needs.{needs}
+use Prim.Native.Nat.{_≤_}
+use mathlib.Core.Path.{_≡_, sym, _∙_, ap}
+use native.Mathlib.Omega.{arith}
+use Rattle.pinwheel.specs.Rule.{base, periodsOf, offsetsFor, offsetsOf}
+use Rattle.pinwheel.proofs.Laws.Bases.{smallest-within, base-fits}
+use Rattle.pinwheel.proofs.Laws.Room.{periods-long, base-roomy}
+use Rattle.pinwheel.proofs.Laws.Checks.{Good, gap-limits, refuse-offsets, refuse-periods, refuse-none, refuse-many, refuse-gap, refuse-crowded, accept}
+use Rattle.pinwheel.proofs.deal.Statement.{statement}
+use Rattle.pinwheel.proofs.deal.Tie as tie
+
+-- Past the checks of form the lists are as 1 and 5 ask.
+good : (c : tie.Else5) → Good (c .before .before .before .before .before .before .before .before .before .args .gaps .now)
+    (c .before .before .before .before .before .before .before .before .before .args .offsets .now)
+    (c .before .before .before .before .before .before .before .before .before .args .periods .now)
+good c = record {
+  offsets-long = c .before .before .before .before .before .if1 .left;
+  periods-long = c .before .before .before .before .if2 .left;
+  some = omega arith;
+  few = c .before .before .if4 .left;
+  limits = rw (sym (c .before .first-bad .ensures)) (c .if5 .left);
+}
+
+two : 2 ≤ 2
+two = omega arith
+
+fit : (c : tie.Else6) → 1 ≤ base 2 (c .before .before .before .before .before .before .before .before .before .before .before .args .gaps .now)
+fit c = omega (arith, c .before .largest-fitting .ensures)
+
+-- The first list written holds the periods under that base.
+made : (c : tie.After-fill) → c .fill .last .1 .1 .1 .0 ≡ periodsOf 2 (c .before .before .before .before .before .before .before .before .before .before .before .before .before .args .gaps .now)
+unfolding periodsOf
+made c = c .fill .ensures ∙ rw (c .before .before .before .largest-fitting .ensures)
+
+returns : tie.Need-returns
+returns c = refuse-offsets _ _ _ _ (c .if1 .taken)
+
+returns-2 : tie.Need-returns-2
+returns-2 c = refuse-periods _ _ _ _ (c .before .if1 .left) (c .if2 .taken)
+
+returns-3 : tie.Need-returns-3
+returns-3 c = refuse-none _ _ _ _ (c .before .before .if1 .left) (c .before .if2 .left) (c .if3 .taken)
+
+returns-4 : tie.Need-returns-4
+returns-4 c = refuse-many _ _ _ _ (c .before .before .before .if1 .left) (c .before .before .if2 .left) (c .if4 .taken)
+
+first-bad-requires : tie.Need-first-bad-requires
+first-bad-requires c κs = search needs
+
+returns-5 : tie.Need-returns-5
+returns-5 c = refuse-gap _ _ _ _ (c .before .before .before .before .before .if1 .left) (c .before .before .before .before .if2 .left) (c .before .before .before .if3 .left) (c .before .before .if4 .left) _ (c .before .first-bad .ensures) (c .if5 .taken)
+
+largest-fitting-requires : tie.Need-largest-fitting-requires
+largest-fitting-requires c κs = (omega arith, good c .some, good c .few, λ i l. gap-limits (c .before .before .before .before .before .before .before .before .before .args .gaps .now) i (omega (arith, good c .limits)) .0)
+
+returns-6 : tie.Need-returns-6
+returns-6 c = refuse-crowded _ _ _ _ (good (c .before .before)) (sym (c .before .largest-fitting .ensures) ∙ c .if6 .taken)
+
+fill-requires : tie.Need-fill-requires
+fill-requires c κs = (omega arith, omega arith, λ i l. omega (arith, base-fits 2 two (c .before .before .before .before .before .before .before .before .before .before .before .before .args .gaps .now) (fit (c .before)) .0, smallest-within (c .before .before .before .before .before .before .before .before .before .before .before .before .args .gaps .now) i l, c .before .before .largest-fitting .ensures), good (c .before .before .before) .periods-long)
+
+fill-requires-2 : tie.Need-fill-requires-2
+fill-requires-2 c κs = (good (c .before .before .before .before .before .before .before .before) .offsets-long ∙ sym (rw (made (c .before .before .before .before)) (periods-long 2 two (c .before .before .before .before .before .before .before .before .before .before .before .before .before .before .before .before .before .args .gaps .now) (fit (c .before .before .before .before .before .before)))), rw (made (c .before .before .before .before)) (base-roomy 2 two _ (fit (c .before .before .before .before .before .before))))
+
+same-length : tie.Need-same-length
+same-length c = search needs
+
+same-length-2 : tie.Need-same-length-2
+same-length-2 c = search needs
+
+returns-7 : tie.Need-returns-7
+unfolding offsetsOf
+returns-7 c = accept 2 _ _ _ (good (c .before .before .before .before .before .before .before .before .before .before .before)) (fit (c .before .before .before .before .before .before .before .before .before)) _ _ _ (c .before .before .before .before .before .before .before .before .before .before .largest-fitting .ensures) (c .before .before .fill2 .ensures ∙ ap offsetsFor (made (c .before .before .before .before .before .before .before))) (made (c .before .before .before .before .before .before .before))
+
+pub deal-spec : {M : Type 1} → statement M
+deal-spec =
+    tie.close
+    (tie.spec
+    returns
+    returns-2
+    returns-3
+    returns-4
+    first-bad-requires
+    returns-5
+    largest-fitting-requires
+    returns-6
+    fill-requires
+    fill-requires-2
+    same-length
+    same-length-2
+    returns-7)

@@ -1,0 +1,69 @@
+-- `offsets::fill` goes from each period to the next larger one: the turns of the periods left give the rest of the dealing, and every offset below `from` is taken.
+use borrow.Author.Needs.{needs}
+use Prim.Native.Nat.{_-_}
+use mathlib.Core.Path.{_∙_}
+use native.Mathlib.Omega.{arith}
+use lib.ListN.{length}
+use Rattle.pinwheel.proofs.Laws.Turns.{Upto, upto-start, upto-passed, upto-next, upto-end}
+use borrow.Author.Needs.{needs}
+use Prim.Native.Nat.{_-_}
+use native.Mathlib.Omega.{arith}
+use lib.ListN.{length}
+use Rattle.pinwheel.proofs.Laws.Turns.{Upto, upto-start, upto-passed, upto-next, upto-end}
+use borrow.Author.Needs.{needs}
+use Prim.Native.Nat.{_-_}
+use native.Mathlib.Omega.{arith}
+use lib.ListN.{length}
+use Rattle.pinwheel.proofs.Laws.Turns.{Upto, upto-start, upto-passed, upto-next, upto-end}
+use borrow.Author.Needs.{needs}
+use Prim.Native.Nat.{_-_}
+use native.Mathlib.Omega.{arith}
+use lib.ListN.{length}
+use Rattle.pinwheel.proofs.Laws.Turns.{Upto, upto-start, upto-passed, upto-next, upto-end}
+use Rattle.pinwheel.proofs.offsets.fill.Statement.{statement}
+use Rattle.pinwheel.proofs.offsets.fill.Tie as tie
+use Rattle.pinwheel.proofs.offsets.fill.Reads as reads
+use Rattle.pinwheel.proofs.offsets.fill.Lts as lts
+use Rattle.pinwheel.proofs.offsets.fill_level.Reads as fill-level-reads
+use Rattle.pinwheel.proofs.offsets.next_period.Reads as next-period-reads
+
+abbrev Inv-loop : tie.InvT-loop
+Inv-loop periods offsets₀ p₀ from₀ offsets p from = Upto periods offsets₀ p from offsets
+
+abbrev μ-loop : tie.MeasureT-loop
+μ-loop periods offsets₀ p₀ from₀ offsets p from = 65536 - p
+
+loop-holds : tie.Need-loop-holds Inv-loop μ-loop
+loop-holds c = upto-start _ _ (c .before .before .pre .0)
+
+next-period-requires : tie.Need-next-period-requires Inv-loop μ-loop
+next-period-requires c κs = search needs
+
+same-length : tie.Need-same-length Inv-loop μ-loop
+same-length c = search needs
+
+returns : tie.Need-returns Inv-loop μ-loop
+returns c = upto-end _ _ _ _ _ _ (c .before .before .before .before .before .pre .1) (c .before .before .loop .inv) (c .before .before .before .before .before .pre .0) (c .before .next-period .ensures) (c .if1 .taken)
+
+fill-level-requires : tie.Need-fill-level-requires Inv-loop μ-loop
+fill-level-requires c κs = (c .before .before .before .loop .inv .long, c .before .before .before .before .before .before .pre .1, upto-passed _ _ _ _ _ _ (c .before .before .before .loop .inv) (c .before .before .next-period .ensures) (omega arith))
+
+loop-less : tie.Need-loop-less Inv-loop μ-loop
+loop-less c = let m = c .before .before .before .before .before .next-period .ensures .one (omega arith) .0 in omega arith
+
+loop-again : tie.Need-loop-again Inv-loop μ-loop
+loop-again c = upto-next _ _ _ _ _ _ _ _ (c .before .before .before .before .before .before .loop .inv) (c .before .before .before .before .before .next-period .ensures) (omega arith) (c .before .before .fill-level .ensures) (c .before .before .fill-level .kept .1 .1 .0 ∙ c .before .before .before .before .before .before .loop .inv .long)
+
+pub fill-spec : {M : Type 1} → statement M
+fill-spec =
+    tie.close
+    (tie.spec
+    Inv-loop
+    μ-loop
+    loop-holds
+    next-period-requires
+    same-length
+    returns
+    fill-level-requires
+    loop-less
+    loop-again)

@@ -1,0 +1,40 @@
+-- The slot rule called alone: what it answers and what the two borrowed lists then hold, for every input.
+use Prim.Native.Nat.{ℕ}
+use mathlib.Core.Bool.{Bool, not, cond, _||_}
+use mathlib.Core.List.{List}
+use lib.Dec.{eqb, ltb}
+use lib.ListN.{length, getD}
+use Rattle.pinwheel.specs.declared.Answer.{Answer}
+use Rattle.pinwheel.specs.declared.Answer.the-variants.{Base, Refused}
+use Rattle.pinwheel.specs.Search.{first}
+use Rattle.pinwheel.specs.Rule.{base, periodsOf, offsetsOf}
+
+-- 01, "Every refusal is a number with a place": an outcome in 01's terms. An accepted list of gaps has its base.
+pub data Outcome : Type 0 where
+  accepted : ℕ → Outcome
+  refused : ℕ → ℕ → Outcome
+
+-- What each case of the answer says in these terms.
+abbrev pub outcome : Answer → Outcome
+outcome (Base b) = accepted b
+outcome (Refused number place) = refused number place
+
+-- 01, "wanted gap 1 to 1,024": the gap at index i is outside its limits.
+unfoldable pub badGap : List ℕ → ℕ → Bool
+badGap gaps i = eqb (getD gaps i 0) 0 || ltb 1024 (getD gaps i 0)
+
+-- The index of the first gap outside its limits, and the number of gaps where there is none.
+unfoldable pub firstBad : List ℕ → ℕ
+firstBad gaps = first (badGap gaps) (length gaps) 0
+
+-- The outcome, the offsets and the periods: the first failing check refuses and leaves both lists as they were.
+-- 1: a list that is not as long as the gaps. 5: a count outside 1 to 63, then the first bad gap. 11: no base fits.
+unfoldable pub dealt : ℕ → List ℕ → List ℕ → List ℕ → Outcome × List ℕ × List ℕ
+dealt f gaps offsets periods =
+    cond (not (eqb (length offsets) (length gaps))) (refused 1 0, offsets, periods)
+    (cond (not (eqb (length periods) (length gaps))) (refused 1 0, offsets, periods)
+    (cond (eqb (length gaps) 0) (refused 5 0, offsets, periods)
+    (cond (ltb 63 (length gaps)) (refused 5 0, offsets, periods)
+    (cond (ltb (firstBad gaps) (length gaps)) (refused 5 (firstBad gaps), offsets, periods)
+    (cond (eqb (base f gaps) 0) (refused 11 0, offsets, periods)
+    (accepted (base f gaps), offsetsOf f gaps, periodsOf f gaps))))))

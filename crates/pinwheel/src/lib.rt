@@ -1,0 +1,57 @@
+// The slot rule: from the gaps wanted by the children of one parent it deals their periods and offsets. It knows no plans, bytes or flows.
+mod bases;
+mod offsets;
+mod periods;
+
+ghost use mathlib.Core.Path.{_≡_};
+ghost use Prim.Native.Nat.{_<_};
+ghost use lib.ListN.{length};
+ghost use Rattle.pinwheel.specs.Deal.{outcome, dealt, firstBad};
+
+// The base that was dealt by, or the number and the place of a refusal.
+pub enum Answer {
+    Base(u16),
+    Refused(u8, usize),
+}
+
+fn first_bad(gaps: &[u16]) -> usize
+    ensures { λ r. ⌜ r ≡ firstBad (now (gaps .entry)) ⌝ }
+{
+    let mut i = 0;
+    while i < gaps.len() {
+        if gaps[i] == 0 || 1024 < gaps[i] {
+            return i;
+        }
+        i += 1;
+    }
+    i
+}
+
+pub fn deal(gaps: &[u16], offsets: &mut [u16], periods: &mut [u16]) -> Answer
+    ensures { λ r. ⌜ (outcome r, now (offsets .exit), now (periods .exit)) ≡ dealt 2 (now (gaps .entry)) (now (offsets .entry)) (now (periods .entry)) ⌝ }
+{
+    let n = gaps.len();
+    if offsets.len() != n {
+        return Answer::Refused(1, 0);
+    }
+    if periods.len() != n {
+        return Answer::Refused(1, 0);
+    }
+    if n == 0 {
+        return Answer::Refused(5, 0);
+    }
+    if 63 < n {
+        return Answer::Refused(5, 0);
+    }
+    let bad = first_bad(gaps);
+    if bad < n {
+        return Answer::Refused(5, bad);
+    }
+    let base = bases::largest_fitting(gaps, 2);
+    if base == 0 {
+        return Answer::Refused(11, 0);
+    }
+    periods::fill(gaps, base, 2, periods);
+    offsets::fill(periods, offsets);
+    Answer::Base(base)
+}
