@@ -5,7 +5,7 @@ ghost use mathlib.Core.List.{map};
 ghost use Prim.Native.Nat.{ℕ, _≤_, _<_};
 ghost use lib.ListN.{length, getD};
 ghost use Rattle.pinwheel.specs.Search.{smallest, largest};
-ghost use Rattle.pinwheel.specs.Rule.{fits, base};
+ghost use Rattle.pinwheel.specs.Rule.{sum, limit, base};
 
 fn smallest_of(gaps: &[u16]) -> u16
     requires { ⌜ 1 ≤ length (now gaps) ⌝ }
@@ -36,19 +36,28 @@ fn largest_of(gaps: &[u16]) -> u16
     high
 }
 
-// Every period divides the largest one, which is the largest gap's; each child takes its share of it.
-fn fits_all(gaps: &[u16], most: u16, base: u16, factor: u16) -> bool
+// The two sides of the test whether a base fits.
+struct Figures {
+    sum: u32,
+    limit: u32,
+}
+
+// The limit is the largest gap's period. Every period divides it, and the quotient is the child's part of the sum.
+fn figures_of(gaps: &[u16], most: u16, base: u16, factor: u16) -> Figures
     requires { ⌜ (2 ≤ factor) × (1 ≤ base) × (most ≡ largest (now gaps)) × (1 ≤ length (now gaps)) × (length (now gaps) ≤ 63) × ((i : ℕ) → i < length (now gaps) → base ≤ getD (now gaps) i 0) ⌝ }
-    ensures { λ r. ⌜ r ≡ fits factor base (now (gaps .entry)) ⌝ }
+    ensures { λ r. ⌜ (r .sum ≡ sum factor base (now (gaps .entry))) × (r .limit ≡ limit factor base (now (gaps .entry))) ⌝ }
 {
-    let limit = period_of(most, base, factor) as u32;
-    let mut sum: u32 = 0;
+    let top = period_of(most, base, factor) as u32;
+    let mut total: u32 = 0;
     let mut i = 0;
     while i < gaps.len() {
-        sum += limit / (period_of(gaps[i], base, factor) as u32);
+        total += top / (period_of(gaps[i], base, factor) as u32);
         i += 1;
     }
-    sum <= limit
+    Figures {
+        sum: total,
+        limit: top,
+    }
 }
 
 // A base at most the smallest gap / factor gives the periods of a larger one, so only those above are tried.
@@ -60,7 +69,8 @@ pub(crate) fn largest_fitting(gaps: &[u16], factor: u16) -> u16
     let mut b = smallest_of(gaps);
     let tried = b / factor;
     while tried < b {
-        if fits_all(gaps, most, b, factor) {
+        let found = figures_of(gaps, most, b, factor);
+        if found.sum <= found.limit {
             return b;
         }
         b -= 1;

@@ -4,9 +4,8 @@ use mathlib.Core.Path.{_≡_, refl, sym, _∙_, ap}
 use mathlib.Core.Bool.{true, false, false≢true}
 use mathlib.Core.List.{List, [], _∷_, map, map-map}
 use mathlib.Core.Logic.{_⊎_, inl, inr, _↔_}
-use lib.Dec.{leb}
 use lib.ListN.{length, getD}
-use borrow.Author.Tests.{le-leb, leb-true}
+use borrow.Author.Tests.{le-leb, lt-leb, leb-true}
 use native.Mathlib.Nat.{pow-zero, pow-suc, mul-one, one-mul, mul-le-mul-left, div-eq-of-eq-mul-left, div-lt-iff-lt-mul}
 use native.Mathlib.Nat.{min-le-left, min-le-right, min-eq-left, min-eq-right, le-max-left, le-max-right, max-eq-left, max-eq-right}
 use native.Mathlib.Omega.{arith}
@@ -112,11 +111,10 @@ module _ (f : ℕ) (two : 2 ≤ f) where
   unfolding fits
   fits-reciprocals b gaps one = (λ i l. limit-common b gaps i one l, rw (sum-shares b gaps one) (leb-true _ _, le-leb _ _))
 
-  -- The test as a loop over the gaps makes it: the limit is the largest gap's period, and each child takes its share.
-  pub fits-shares : (b : ℕ) (gaps : List ℕ) (top sum : ℕ) → 1 ≤ b → top ≡ period f b (largest gaps) → sum ≡ total (map (λ g. top / period f b g) gaps)
-      → leb sum top ≡ fits f b gaps
-  unfolding fits
-  fits-shares b gaps top sum one e q = rw (q, e, sum-shares b gaps one, limit-largest b gaps one)
+  -- The sum as a loop over the gaps makes it, from the largest gap's period.
+  pub sum-quotients : (b : ℕ) (gaps : List ℕ) (top n : ℕ) → 1 ≤ b → top ≡ period f b (largest gaps) → n ≡ total (map (λ g. top / period f b g) gaps)
+      → n ≡ sum f b gaps
+  sum-quotients b gaps top n one e q = rw (q, e, sum-shares b gaps one, limit-largest b gaps one)
 
   -- A base that can be multiplied within every gap fits just when its multiple does.
   pub fits-up : (b : ℕ) (gaps : List ℕ) → 1 ≤ b → b * f ≤ smallest gaps → fits f b gaps ≡ fits f (b * f) gaps
@@ -164,6 +162,15 @@ module _ (f : ℕ) (two : 2 ≤ f) where
   -- Where no base above the smallest gap / factor fits, none fits: each other one gives the periods of a larger one.
   pub none-below : (gaps : List ℕ) → ((b : ℕ) → smallest gaps / f < b → b ≤ smallest gaps → fits f b gaps ≡ false) → base f gaps ≡ 0
   none-below gaps none = unfit gaps (λ l. none (base f gaps) (div-lt-iff-lt-mul (omega arith) .1 (base-top gaps l)) (base-fits gaps l .0))
+
+  -- The test on the two figures.
+  pub fits-yes : (b : ℕ) (gaps : List ℕ) (n top : ℕ) → n ≡ sum f b gaps → top ≡ limit f b gaps → n ≤ top → fits f b gaps ≡ true
+  unfolding fits
+  fits-yes b gaps n top e q h = le-leb _ _ (rw (e, q) at h)
+
+  pub fits-no : (b : ℕ) (gaps : List ℕ) (n top : ℕ) → n ≡ sum f b gaps → top ≡ limit f b gaps → top < n → fits f b gaps ≡ false
+  unfolding fits
+  fits-no b gaps n top e q h = lt-leb _ _ (rw (e, q) at h)
 
   -- The search: where it starts, a base that does not fit, one that does, and where it may end.
   pub tried-start : (gaps : List ℕ) (b : ℕ) → b ≡ smallest gaps → Tried f gaps b

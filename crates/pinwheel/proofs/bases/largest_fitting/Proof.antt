@@ -1,8 +1,7 @@
 -- `bases::largest_fitting` goes down from the smallest gap: no base passed fits. Where none above the smallest gap / factor does, none at all does.
 use borrow.Author.Needs.{needs}
-use mathlib.Core.Path.{sym, _∙_}
 use native.Mathlib.Omega.{arith}
-use Rattle.pinwheel.proofs.Laws.Bases.{Tried, smallest-within, tried-start, tried-less, tried-hit, tried-end}
+use Rattle.pinwheel.proofs.Laws.Bases.{Tried, smallest-within, tried-start, tried-less, tried-hit, tried-end, fits-yes, fits-no}
 use Rattle.pinwheel.proofs.bases.largest_fitting.Statement.{statement}
 use Rattle.pinwheel.proofs.bases.largest_fitting.Tie as tie
 
@@ -24,11 +23,11 @@ div-tried c = search needs
 loop-holds : tie.Need-loop-holds Inv-loop μ-loop
 loop-holds c = tried-start _ (c .before .before .before .pre .0) _ _ (c .smallest-of .ensures)
 
-fits-all-requires : tie.Need-fits-all-requires Inv-loop μ-loop
-fits-all-requires c κs = (c .before .before .before .before .before .pre .0, omega arith, c .before .before .before .largest-of .ensures, c .before .before .before .before .before .pre .1, c .before .before .before .before .before .pre .2, λ i l. omega (arith, c .before .loop .inv .within, smallest-within (c .before .before .before .before .before .args .gaps .now) i l))
+figures-of-requires : tie.Need-figures-of-requires Inv-loop μ-loop
+figures-of-requires c κs = (c .before .before .before .before .before .pre .0, omega arith, c .before .before .before .largest-of .ensures, c .before .before .before .before .before .pre .1, c .before .before .before .before .before .pre .2, λ i l. omega (arith, c .before .loop .inv .within, smallest-within (c .before .before .before .before .before .args .gaps .now) i l))
 
 returns : tie.Need-returns Inv-loop μ-loop
-returns c = tried-hit _ (c .before .before .before .before .before .before .before .pre .0) _ _ (c .before .before .before .loop .inv) (sym (c .before .fits-all .ensures) ∙ c .if1 .taken)
+returns c = tried-hit _ (c .before .before .before .before .before .before .before .before .pre .0) _ _ (c .before .before .before .before .loop .inv) (fits-yes _ (c .before .before .before .before .before .before .before .before .pre .0) _ _ _ _ (c .before .before .figures-of .ensures .0) (c .before .before .figures-of .ensures .1) (c .if1 .taken))
 
 sub-b : tie.Need-sub-b Inv-loop μ-loop
 sub-b c = search needs
@@ -37,7 +36,7 @@ loop-less : tie.Need-loop-less Inv-loop μ-loop
 loop-less c = search needs
 
 loop-again : tie.Need-loop-again Inv-loop μ-loop
-loop-again c = tried-less _ (c .before .before .before .before .before .before .before .pre .0) _ _ (c .before .before .before .loop .inv) (sym (c .before .fits-all .ensures) ∙ c .if1 .left)
+loop-again c = tried-less _ (c .before .before .before .before .before .before .before .before .pre .0) _ _ (c .before .before .before .before .loop .inv) (fits-no _ (c .before .before .before .before .before .before .before .before .pre .0) _ _ _ _ (c .before .before .figures-of .ensures .0) (c .before .before .figures-of .ensures .1) (c .if1 .left))
 
 returns-2 : tie.Need-returns-2 Inv-loop μ-loop
 returns-2 c = tried-end _ (c .before .before .before .before .before .pre .0) _ _ _ (c .before .loop .inv) (c .before .before .smallest-of .ensures) (c .loop-test .left)
@@ -52,7 +51,7 @@ largest-fitting-spec =
     smallest-of-requires
     div-tried
     loop-holds
-    fits-all-requires
+    figures-of-requires
     returns
     sub-b
     loop-less
