@@ -1,6 +1,5 @@
 // Deals the lists that cost the slot rule most, many times over, so that its running time can be measured.
 use pinwheel::Answer;
-
 ghost use Prim.Native.Nat.{_<_};
 
 // The base of an answer, and 0 for a refusal.

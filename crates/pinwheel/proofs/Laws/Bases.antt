@@ -104,13 +104,6 @@ module _ (f : ℕ) (two : 2 ≤ f) where
       below : (i : ℕ) → i < length gaps → exponent f b (getD gaps i 0) ≤ greatest f b gaps
       below i l = rw (greatest-largest b gaps one) (exponent-mono f two b (getD gaps i 0) (largest gaps) one (largest-above gaps i l))
 
-  -- LAW 2. With L = base × factor^J, a common multiple of the periods, base b fits just when the sum of L / period is at most L: the reciprocals sum to at most 1.
-  pub fits-reciprocals : (b : ℕ) (gaps : List ℕ) → 1 ≤ b
-      → ((i : ℕ) → i < length gaps → limit f b gaps / period f b (getD gaps i 0) * period f b (getD gaps i 0) ≡ limit f b gaps)
-      × ((fits f b gaps ≡ true) ↔ (total (map (λ g. limit f b gaps / period f b g) gaps) ≤ limit f b gaps))
-  unfolding fits
-  fits-reciprocals b gaps one = (λ i l. limit-common b gaps i one l, rw (sum-shares b gaps one) (leb-true _ _, le-leb _ _))
-
   -- The sum as a loop over the gaps makes it, from the largest gap's period.
   pub sum-quotients : (b : ℕ) (gaps : List ℕ) (top n : ℕ) → 1 ≤ b → top ≡ period f b (largest gaps) → n ≡ total (map (λ g. top / period f b g) gaps)
       → n ≡ sum f b gaps
@@ -131,7 +124,7 @@ module _ (f : ℕ) (two : 2 ≤ f) where
       shares : map (λ g. limit f (b * f) gaps / period f b g) gaps ≡ map (λ g. limit f (b * f) gaps / period f (b * f) g) gaps
       shares = map-agrees _ _ gaps (λ i l. rw (period-up f two b (getD gaps i 0) one (omega (arith, smallest-within gaps i l))))
 
-  -- LAW 3. The base fits, and no larger one up to the smallest gap does; it is 0 just when no base from 1 to the smallest gap fits.
+  -- The base fits, and no larger one up to the smallest gap does; it is 0 just when no base from 1 to the smallest gap fits.
   pub base-fits : (gaps : List ℕ) → 1 ≤ base f gaps → (base f gaps ≤ smallest gaps) × (fits f (base f gaps) gaps ≡ true)
       × ((b : ℕ) → base f gaps < b → b ≤ smallest gaps → fits f b gaps ≡ false)
   unfolding base
@@ -158,6 +151,14 @@ module _ (f : ℕ) (two : 2 ≤ f) where
       go (inl l) = l
       go (inr m) = absurd (false≢true (sym (base-fits gaps h .2 (base f gaps * f) (omega (arith, mul-le-mul-left (base f gaps) two)) m)
           ∙ sym (fits-up (base f gaps) gaps h m) ∙ base-fits gaps h .1))
+
+  -- So the smallest gap has the base itself for its period.
+  pub base-period : (gaps : List ℕ) → 1 ≤ base f gaps → period f (base f gaps) (smallest gaps) ≡ base f gaps
+  unfolding period
+  base-period gaps h = rw (none, pow-zero, mul-one)
+    where
+      none : exponent f (base f gaps) (smallest gaps) ≡ 0
+      none = exponent-is f two (base f gaps) (smallest gaps) 0 h (rw (pow-zero, mul-one) (base-fits gaps h .0)) (rw (pow-suc, pow-zero, one-mul) (base-top gaps h))
 
   -- Where no base above the smallest gap / factor fits, none fits: each other one gives the periods of a larger one.
   pub none-below : (gaps : List ℕ) → ((b : ℕ) → smallest gaps / f < b → b ≤ smallest gaps → fits f b gaps ≡ false) → base f gaps ≡ 0
@@ -189,18 +190,3 @@ module _ (f : ℕ) (two : 2 ≤ f) where
 
   pub tried-end : (gaps : List ℕ) (b s : ℕ) → Tried f gaps b → s ≡ smallest gaps → b ≤ s / f → 0 ≡ base f gaps
   tried-end gaps b s t e h = sym (none-below gaps (λ k l m. t .none k (let q = rw e at h in omega arith) m))
-
-  -- LAW 7. The base is the smallest period dealt.
-  pub base-smallest : (gaps : List ℕ) → 1 ≤ length gaps → 1 ≤ base f gaps
-      → ((i : ℕ) → i < length gaps → base f gaps ≤ period f (base f gaps) (getD gaps i 0))
-      × ((i : ℕ) × (i < length gaps) × (period f (base f gaps) (getD gaps i 0) ≡ base f gaps))
-  unfolding period
-  base-smallest gaps l h = (λ i l. period-least f two (base f gaps) (getD gaps i 0), go (smallest-met gaps l))
-    where
-      go : (i : ℕ) × (i < length gaps) × (getD gaps i 0 ≡ smallest gaps)
-          → (i : ℕ) × (i < length gaps) × (period f (base f gaps) (getD gaps i 0) ≡ base f gaps)
-      go (i, m, e) = (i, m, rw (e, none, pow-zero, mul-one))
-        where
-          none : exponent f (base f gaps) (smallest gaps) ≡ 0
-          none = exponent-is f two (base f gaps) (smallest gaps) 0 h
-              (rw (pow-zero, mul-one) (base-fits gaps h .0)) (rw (pow-suc, pow-zero, one-mul) (base-top gaps h))

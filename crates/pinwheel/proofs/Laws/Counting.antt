@@ -1,13 +1,15 @@
 -- How many numbers below n pass a test, and how many of a residue class there are. Sums over a range of indices.
 use Prim.Native.Nat.{ℕ, zero, suc, _+_, _*_, _/_, _%_, _≤_, _<_}
-use mathlib.Core.Path.{_≡_, refl, sym}
+use mathlib.Core.Path.{_≡_, refl, sym, _∙_}
 use mathlib.Core.Bool.{Bool, true, false, cond}
 use mathlib.Core.Logic.{_⊎_, inl, inr}
 use lib.Dec.{eqb}
 use borrow.Author.Tests.{eqb-true}
-use native.Mathlib.Nat.{add-zero, add-suc, zero-mul, suc-mul, mul-zero, mul-add, mul-add-mod-self-right, mod-eq-of-lt, eq-or-lt-of-le}
+use native.Mathlib.Nat.{add-zero, add-suc, zero-mul, suc-mul, mul-zero, mul-add, mul-add-mod-self-right}
+use native.Mathlib.Nat.{mul-le-mul-right, mod-lt, mod-eq-of-lt, div-add-mod', eq-or-lt-of-le}
 use native.Mathlib.Omega.{arith}
 use Rattle.pinwheel.specs.Search.{any}
+use Rattle.pinwheel.proofs.Laws.Search.{lt-or-le}
 
 abbrev bit : Bool → ℕ
 bit true = 1
@@ -120,3 +122,33 @@ pub sumOf-scale : (c : ℕ) (h : ℕ → ℕ) (r k : ℕ) → sumOf (λ m. c * h
 unfolding sumOf
 sumOf-scale c h zero k = sym (mul-zero c)
 sumOf-scale c h (suc r) k = rw (sumOf-scale c h r (k + 1), mul-add)
+
+-- Two numbers of one residue class are a whole period apart.
+class-apart : (p u t : ℕ) → u % p ≡ t % p → u < t → u + p ≤ t
+class-apart p u t e l = go (lt-or-le (u / p) (t / p))
+  where
+    go : (u / p < t / p) ⊎ (t / p ≤ u / p) → u + p ≤ t
+    go (inl m) = omega (arith, mul-le-mul-right p m, suc-mul (u / p) p, div-add-mod' u p, div-add-mod' t p)
+    go (inr m) = absurd (omega (arith, mul-le-mul-right p m, div-add-mod' u p, div-add-mod' t p))
+
+-- So in each run of p numbers exactly one is of a given class.
+pub class-once : (p o s : ℕ) → o < p → (t : ℕ) × (s ≤ t) × (t < s + p) × (t % p ≡ o) × ((u : ℕ) → s ≤ u → u < s + p → u % p ≡ o → u ≡ t)
+class-once p o s l = go (lt-or-le o (s % p))
+  where
+    low : s % p < p
+    low = mod-lt s (omega arith)
+
+    only : (t : ℕ) → s ≤ t → t < s + p → t % p ≡ o → (u : ℕ) → s ≤ u → u < s + p → u % p ≡ o → u ≡ t
+    only t a b e u c d q = at (lt-or-le u t) (lt-or-le t u)
+      where
+        at : (u < t) ⊎ (t ≤ u) → (t < u) ⊎ (u ≤ t) → u ≡ t
+        at (inl m) w = absurd (omega (arith, class-apart p u t (q ∙ sym e) m))
+        at (inr m) (inl n) = absurd (omega (arith, class-apart p t u (e ∙ sym q) n))
+        at (inr m) (inr n) = omega arith
+
+    here : (m : ℕ) → s ≤ m * p + o → m * p + o < s + p → (t : ℕ) × (s ≤ t) × (t < s + p) × (t % p ≡ o) × ((u : ℕ) → s ≤ u → u < s + p → u % p ≡ o → u ≡ t)
+    here m a b = let e : (m * p + o) % p ≡ o = rw mul-add-mod-self-right (mod-eq-of-lt l) in (m * p + o, a, b, e, only (m * p + o) a b e)
+
+    go : (o < s % p) ⊎ (s % p ≤ o) → (t : ℕ) × (s ≤ t) × (t < s + p) × (t % p ≡ o) × ((u : ℕ) → s ≤ u → u < s + p → u % p ≡ o → u ≡ t)
+    go (inl m) = here (suc (s / p)) (omega (arith, low, suc-mul (s / p) p, div-add-mod' s p)) (omega (arith, suc-mul (s / p) p, div-add-mod' s p))
+    go (inr m) = here (s / p) (omega (arith, div-add-mod' s p)) (omega (arith, low, div-add-mod' s p))

@@ -20,7 +20,7 @@ module _ (f : ℕ) (two : 2 ≤ f) where
   pub below-multiple : (b j : ℕ) → 1 ≤ b → j < b * f ^ j
   below-multiple b j one = omega (arith, below-power j, mul-le-mul-right (f ^ j) one)
 
-  powers : (i j : ℕ) → i ≤ j → f ^ i ≤ f ^ j
+  pub powers : (i j : ℕ) → i ≤ j → f ^ i ≤ f ^ j
   powers i j l = pow-le-pow-right (omega arith) l
 
   -- A larger exponent gives a larger multiple of the base.
@@ -64,12 +64,6 @@ module _ (f : ℕ) (two : 2 ≤ f) where
   pub period-least : (b g : ℕ) → b ≤ period f b g
   unfolding period
   period-least b g = le-mul-of-pos-right b (one-le-pow (exponent f b g) f (omega arith))
-
-  -- LAW 1. The period is the largest base × factor^j not above the gap.
-  pub period-largest : (b g : ℕ) → 1 ≤ b → b ≤ g
-      → ((j : ℕ) × (period f b g ≡ b * f ^ j)) × (period f b g ≤ g) × ((j : ℕ) → b * f ^ j ≤ g → b * f ^ j ≤ period f b g)
-  unfolding period
-  period-largest b g one h = ((exponent f b g, refl), period-within b g h, λ j m. mul-le-mul-left b (powers j (exponent f b g) (exponent-most b g j one m)))
 
   -- A multiple with a larger exponent is a whole number of those with a smaller.
   pub power-split : (b i j : ℕ) → i ≤ j → b * f ^ j ≡ f ^ (j - i) * (b * f ^ i)

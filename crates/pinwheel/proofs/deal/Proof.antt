@@ -20,7 +20,7 @@ good c = record {
   periods-long = c .before .before .before .before .if2 .left;
   some = omega arith;
   few = c .before .before .if4 .left;
-  limits = rw (sym (c .before .first-bad .ensures)) (c .if5 .left);
+  limits = λ i l. gap-limits (c .before .before .before .before .before .before .before .before .before .args .gaps .now) i (omega (arith, c .before .first-bad .ensures));
 }
 
 two : 2 ≤ 2
@@ -53,13 +53,13 @@ returns-5 : tie.Need-returns-5
 returns-5 c = refuse-gap _ _ _ _ (c .before .before .before .before .before .if1 .left) (c .before .before .before .before .if2 .left) (c .before .before .before .if3 .left) (c .before .before .if4 .left) _ (c .before .first-bad .ensures) (c .if5 .taken)
 
 largest-fitting-requires : tie.Need-largest-fitting-requires
-largest-fitting-requires c κs = (omega arith, good c .some, good c .few, λ i l. gap-limits (c .before .before .before .before .before .before .before .before .before .args .gaps .now) i (omega (arith, good c .limits)) .0)
+largest-fitting-requires c κs = (two, good c .some, good c .few, λ i l. good c .limits i l .0)
 
 returns-6 : tie.Need-returns-6
 returns-6 c = refuse-crowded _ _ _ _ (good (c .before .before)) (sym (c .before .largest-fitting .ensures) ∙ c .if6 .taken)
 
 fill-requires : tie.Need-fill-requires
-fill-requires c κs = (omega arith, omega arith, λ i l. omega (arith, base-fits 2 two (c .before .before .before .before .before .before .before .before .before .before .before .before .args .gaps .now) (fit (c .before)) .0, smallest-within (c .before .before .before .before .before .before .before .before .before .before .before .before .args .gaps .now) i l, c .before .before .largest-fitting .ensures), good (c .before .before .before) .periods-long)
+fill-requires c κs = (two, omega arith, λ i l. omega (arith, base-fits 2 two (c .before .before .before .before .before .before .before .before .before .before .before .before .args .gaps .now) (fit (c .before)) .0, smallest-within (c .before .before .before .before .before .before .before .before .before .before .before .before .args .gaps .now) i l, c .before .before .largest-fitting .ensures), good (c .before .before .before) .periods-long)
 
 fill-requires-2 : tie.Need-fill-requires-2
 fill-requires-2 c κs = (good (c .before .before .before .before .before .before .before .before) .offsets-long ∙ sym (rw (made (c .before .before .before .before)) (periods-long 2 two (c .before .before .before .before .before .before .before .before .before .before .before .before .before .before .before .before .before .args .gaps .now) (fit (c .before .before .before .before .before .before)))), rw (made (c .before .before .before .before)) (base-roomy 2 two _ (fit (c .before .before .before .before .before .before))))
