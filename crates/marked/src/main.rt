@@ -1,6 +1,5 @@
 // Runs the examples of the slot rule that are not starred, and further lists, and prints each answer on a line of its own.
 use pinwheel::Answer;
-
 ghost use Prim.Native.Nat.{_≤_};
 ghost use lib.ListN.{length};
 

@@ -1,4 +1,4 @@
 pub mod Search
 pub mod Rule
 pub mod Deal
-pub mod Turns
+pub mod Inner

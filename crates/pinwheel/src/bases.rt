@@ -1,11 +1,11 @@
 // The search for the largest fitting base.
 use crate::periods::period_of;
 ghost use mathlib.Core.Path.{_≡_};
-ghost use mathlib.Core.List.{map};
-ghost use Prim.Native.Nat.{ℕ, _≤_, _<_};
-ghost use lib.ListN.{length, getD};
+ghost use Prim.Native.Nat.{_≤_, _/_};
+ghost use lib.ListN.{length};
 ghost use Rattle.pinwheel.specs.Search.{smallest, largest};
-ghost use Rattle.pinwheel.specs.Rule.{sum, limit, base};
+ghost use Rattle.pinwheel.specs.Rule.{period, sum, limit, base};
+ghost use Rattle.pinwheel.specs.Inner.{Allowed};
 
 fn smallest_of(gaps: &[u16]) -> u16
     requires { ⌜ 1 ≤ length (now gaps) ⌝ }
@@ -42,16 +42,25 @@ struct Figures {
     limit: u32,
 }
 
-// The limit is the largest gap's period. Every period divides it, and the quotient is the child's part of the sum.
+// How often a child with this gap sends in `top` slots.
+fn share(top: u32, gap: u16, base: u16, factor: u16) -> u32
+    requires { ⌜ (2 ≤ factor) × (1 ≤ base) × (base ≤ gap) ⌝ }
+    ensures { λ r. ⌜ r ≡ top / period factor base gap ⌝ }
+{
+    let p = period_of(gap, base, factor) as u32;
+    top / p
+}
+
+// The limit is the largest gap's period. Every period divides it, so a child's part of the sum is its share of the limit.
 fn figures_of(gaps: &[u16], most: u16, base: u16, factor: u16) -> Figures
-    requires { ⌜ (2 ≤ factor) × (1 ≤ base) × (most ≡ largest (now gaps)) × (1 ≤ length (now gaps)) × (length (now gaps) ≤ 63) × ((i : ℕ) → i < length (now gaps) → base ≤ getD (now gaps) i 0) ⌝ }
+    requires { ⌜ Allowed factor base (now gaps) × (most ≡ largest (now gaps)) × (1 ≤ length (now gaps)) × (length (now gaps) ≤ 63) ⌝ }
     ensures { λ r. ⌜ (r .sum ≡ sum factor base (now (gaps .entry))) × (r .limit ≡ limit factor base (now (gaps .entry))) ⌝ }
 {
     let top = period_of(most, base, factor) as u32;
     let mut total: u32 = 0;
     let mut i = 0;
     while i < gaps.len() {
-        total += top / (period_of(gaps[i], base, factor) as u32);
+        total += share(top, gaps[i], base, factor);
         i += 1;
     }
     Figures {
@@ -62,7 +71,7 @@ fn figures_of(gaps: &[u16], most: u16, base: u16, factor: u16) -> Figures
 
 // A base at most the smallest gap / factor gives the periods of a larger one, so only those above are tried.
 pub(crate) fn largest_fitting(gaps: &[u16], factor: u16) -> u16
-    requires { ⌜ (2 ≤ factor) × (1 ≤ length (now gaps)) × (length (now gaps) ≤ 63) × ((i : ℕ) → i < length (now gaps) → 1 ≤ getD (now gaps) i 0) ⌝ }
+    requires { ⌜ (2 ≤ factor) × (1 ≤ length (now gaps)) × (length (now gaps) ≤ 63) ⌝ }
     ensures { λ r. ⌜ r ≡ base factor (now (gaps .entry)) ⌝ }
 {
     let most = largest_of(gaps);

@@ -6,7 +6,7 @@ ghost use lib.Dec.{eqb, ltb};
 ghost use lib.ListN.{length, getD};
 ghost use Rattle.pinwheel.specs.Search.{firstIn};
 ghost use Rattle.pinwheel.specs.Rule.{sends, taken, freeOffset, level, offsetsFor};
-ghost use Rattle.pinwheel.specs.Turns.{Roomy, Passed, Level, Next};
+ghost use Rattle.pinwheel.specs.Inner.{Roomy, Passed, Level, Next};
 
 // Child k, of this period, goes before the child of period p and index i.
 fn precedes(period: u16, k: usize, p: u16, i: usize) -> bool

@@ -1,9 +1,10 @@
 // Periods under a given base.
 ghost use mathlib.Core.Path.{_≡_};
 ghost use mathlib.Core.List.{map};
-ghost use Prim.Native.Nat.{ℕ, _≤_, _<_};
-ghost use lib.ListN.{length, getD};
+ghost use Prim.Native.Nat.{_≤_};
+ghost use lib.ListN.{length};
 ghost use Rattle.pinwheel.specs.Rule.{period};
+ghost use Rattle.pinwheel.specs.Inner.{Allowed};
 
 // The gap's period: the base times the factor, as often as it stays within the gap. No product exceeds the gap.
 pub(crate) fn period_of(gap: u16, base: u16, factor: u16) -> u16
@@ -19,7 +20,7 @@ pub(crate) fn period_of(gap: u16, base: u16, factor: u16) -> u16
 }
 
 pub(crate) fn fill(gaps: &[u16], base: u16, factor: u16, periods: &mut [u16])
-    requires { ⌜ (2 ≤ factor) × (1 ≤ base) × ((i : ℕ) → i < length (now gaps) → base ≤ getD (now gaps) i 0) × (length (now periods) ≡ length (now gaps)) ⌝ }
+    requires { ⌜ Allowed factor base (now gaps) × (length (now periods) ≡ length (now gaps)) ⌝ }
     ensures { λ _. ⌜ now (periods .exit) ≡ map (period factor base) (now (gaps .entry)) ⌝ }
 {
     let mut i = 0;

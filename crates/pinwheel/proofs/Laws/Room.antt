@@ -11,7 +11,7 @@ use native.Mathlib.Nat.{lt-of-mul-lt-mul-left, lt-of-mul-lt-mul-right, div-eq-of
 use native.Mathlib.Omega.{arith}
 use Rattle.pinwheel.specs.Search.{total, largest}
 use Rattle.pinwheel.specs.Rule.{period, sum, limit, fits, base, periodsOf, sends, earlier, taken, freeOffset}
-use Rattle.pinwheel.specs.Turns.{Roomy}
+use Rattle.pinwheel.specs.Inner.{Roomy}
 use Rattle.pinwheel.proofs.Laws.Search.{first-within}
 use Rattle.pinwheel.proofs.Laws.Lists.{getD-map}
 use Rattle.pinwheel.proofs.Laws.Periods.{period-least, period-divides}

@@ -12,7 +12,7 @@ use borrow.Author.Count.{below-more}
 use native.Mathlib.Omega.{arith}
 use Rattle.pinwheel.specs.Search.{first, firstIn, largest}
 use Rattle.pinwheel.specs.Rule.{sends, earlier, taken, freeOffset, turn, level, levels, offsetsFor}
-use Rattle.pinwheel.specs.Turns.{Roomy, Passed, Level, Next}
+use Rattle.pinwheel.specs.Inner.{Roomy, Passed, Level, Next}
 use Rattle.pinwheel.proofs.Laws.Search.{lt-or-le, first-passes, first-before, first-skip}
 use Rattle.pinwheel.proofs.Laws.Bases.{largest-above}
 use Rattle.pinwheel.proofs.Laws.Offsets.{earlier-self, earlier-same, earlier-below, earlier-le, earlier-more, taken-why, taken-by, levels-offsets}

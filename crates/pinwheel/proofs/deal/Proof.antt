@@ -53,13 +53,13 @@ returns-5 : tie.Need-returns-5
 returns-5 c = refuse-gap _ _ _ _ (c .before .before .before .before .before .if1 .left) (c .before .before .before .before .if2 .left) (c .before .before .before .if3 .left) (c .before .before .if4 .left) _ (c .before .first-bad .ensures) (c .if5 .taken)
 
 largest-fitting-requires : tie.Need-largest-fitting-requires
-largest-fitting-requires c κs = (two, good c .some, good c .few, λ i l. good c .limits i l .0)
+largest-fitting-requires c κs = (two, good c .some, good c .few)
 
 returns-6 : tie.Need-returns-6
 returns-6 c = refuse-crowded _ _ _ _ (good (c .before .before)) (sym (c .before .largest-fitting .ensures) ∙ c .if6 .taken)
 
 fill-requires : tie.Need-fill-requires
-fill-requires c κs = (two, omega arith, λ i l. omega (arith, base-fits 2 two (c .before .before .before .before .before .before .before .before .before .before .before .before .args .gaps .now) (fit (c .before)) .0, smallest-within (c .before .before .before .before .before .before .before .before .before .before .before .before .args .gaps .now) i l, c .before .before .largest-fitting .ensures), good (c .before .before .before) .periods-long)
+fill-requires c κs = (record { two = two; one = omega arith; within = λ i l. omega (arith, base-fits 2 two (c .before .before .before .before .before .before .before .before .before .before .before .before .args .gaps .now) (fit (c .before)) .0, smallest-within (c .before .before .before .before .before .before .before .before .before .before .before .before .args .gaps .now) i l, c .before .before .largest-fitting .ensures) }, good (c .before .before .before) .periods-long)
 
 fill-requires-2 : tie.Need-fill-requires-2
 fill-requires-2 c κs = (good (c .before .before .before .before .before .before .before .before) .offsets-long ∙ sym (rw (made (c .before .before .before .before)) (periods-long 2 two (c .before .before .before .before .before .before .before .before .before .before .before .before .before .before .before .before .before .args .gaps .now) (fit (c .before .before .before .before .before .before)))), rw (made (c .before .before .before .before)) (base-roomy 2 two _ (fit (c .before .before .before .before .before .before))))

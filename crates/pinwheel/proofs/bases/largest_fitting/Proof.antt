@@ -24,7 +24,7 @@ loop-holds : tie.Need-loop-holds Inv-loop μ-loop
 loop-holds c = tried-start _ (c .before .before .before .pre .0) _ _ (c .smallest-of .ensures)
 
 figures-of-requires : tie.Need-figures-of-requires Inv-loop μ-loop
-figures-of-requires c κs = (c .before .before .before .before .before .pre .0, omega arith, c .before .before .before .largest-of .ensures, c .before .before .before .before .before .pre .1, c .before .before .before .before .before .pre .2, λ i l. omega (arith, c .before .loop .inv .within, smallest-within (c .before .before .before .before .before .args .gaps .now) i l))
+figures-of-requires c κs = (record { two = c .before .before .before .before .before .pre .0; one = omega arith; within = λ i l. omega (arith, c .before .loop .inv .within, smallest-within (c .before .before .before .before .before .args .gaps .now) i l) }, c .before .before .before .largest-of .ensures, c .before .before .before .before .before .pre .1, c .before .before .before .before .before .pre .2)
 
 returns : tie.Need-returns Inv-loop μ-loop
 returns c = tried-hit _ (c .before .before .before .before .before .before .before .before .pre .0) _ _ (c .before .before .before .before .loop .inv) (fits-yes _ (c .before .before .before .before .before .before .before .before .pre .0) _ _ _ _ (c .before .before .figures-of .ensures .0) (c .before .before .figures-of .ensures .1) (c .if1 .taken))

@@ -5,7 +5,7 @@ use mathlib.Core.Path.{_≡_}
 use mathlib.Core.Logic.{⊎-elim}
 use lib.ListN.{length}
 use native.Mathlib.Omega.{arith}
-use Rattle.pinwheel.specs.Turns.{Next}
+use Rattle.pinwheel.specs.Inner.{Next}
 use Rattle.pinwheel.proofs.Laws.Turns.{next-none, next-skip, next-take}
 use Rattle.pinwheel.proofs.offsets.next_period.Statement.{statement}
 use Rattle.pinwheel.proofs.offsets.next_period.Tie as tie

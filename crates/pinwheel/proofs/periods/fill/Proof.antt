@@ -24,7 +24,7 @@ shared-slice-read-period-of : tie.Need-shared-slice-read-period-of Inv-loop μ-l
 shared-slice-read-period-of c = search needs
 
 period-of-requires : tie.Need-period-of-requires Inv-loop μ-loop
-period-of-requires c κs = (c .before .before .before .before .before .pre .0, c .before .before .before .before .before .pre .1, c .before .before .before .before .before .pre .2 _ (c .before .loop-test .taken))
+period-of-requires c κs = (c .before .before .before .before .before .pre .0 .two, c .before .before .before .before .before .pre .0 .one, c .before .before .before .before .before .pre .0 .within _ (c .before .loop-test .taken))
 
 mul-periods : tie.Need-mul-periods Inv-loop μ-loop
 mul-periods c = search needs

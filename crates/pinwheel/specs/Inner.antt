@@ -1,10 +1,16 @@
--- What the inner functions of the dealing tell each other. The public promise cites none of this.
+-- What the inner functions ask of their callers and tell them. The public promise cites none of this.
 use Prim.Native.Nat.{ℕ, _<_, _≤_}
 use mathlib.Core.Path.{_≡_}
 use mathlib.Core.Bool.{Bool, true}
 use mathlib.Core.List.{List}
 use lib.ListN.{length, getD}
 use Rattle.pinwheel.specs.Rule.{taken, freeOffset, level}
+
+-- A factor from 2 up, and a base that rule 1 allows for these gaps.
+pub record Allowed (f b : ℕ) (gaps : List ℕ) : Type 0 where
+  pub two : 2 ≤ f
+  pub one : 1 ≤ b
+  pub within : (i : ℕ) → i < length gaps → b ≤ getD gaps i 0
 
 -- Each child finds a free offset below its period, whatever the offsets of those before it.
 pub record Roomy (ps : List ℕ) : Type 0 where
