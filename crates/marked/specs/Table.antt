@@ -1,4 +1,5 @@
--- The starred examples of 01, "Marked plans", as one table. A row names an input and the whole result; what it claims is put in the words of the promises.
+-- The starred examples of 01, "Marked plans", as one table. A row names an input and its whole result; what it claims is said by the
+-- definitions that the promises cite.
 use Prim.Native.Nat.{ℕ}
 use mathlib.Core.Path.{_≡_}
 use mathlib.Core.List.{List, [], _∷_}

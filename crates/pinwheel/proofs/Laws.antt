@@ -8,18 +8,17 @@ pub mod Offsets
 pub mod Room
 pub mod Turns
 pub mod Checks
-use Prim.Native.Nat.{ℕ, _+_, _*_, _-_, _^_, _/_, _%_, _≤_, _<_}
+use Prim.Native.Nat.{ℕ, _+_, _*_, _^_, _/_, _%_, _≤_, _<_}
 use mathlib.Core.Path.{_≡_, refl, sym, _∙_, ap}
 use mathlib.Core.Bool.{Bool, true, false, not, false≢true}
 use mathlib.Core.List.{List, [], _∷_, map}
 use mathlib.Core.Logic.{_⊎_, inl, inr, _↔_}
-use lib.Dec.{eqb}
 use lib.ListN.{length, getD}
 use borrow.Author.Tests.{eq-eqb, eqb-true, le-leb, leb-true, not-true, not-false}
-use native.Mathlib.Nat.{pow-zero, pow-suc, mul-one, one-mul, mul-le-mul-left, mod-lt, mod-eq-of-lt, mod-mod-of-dvd, dvd-of-mod-eq-zero, div-add-mod'}
+use native.Mathlib.Nat.{mul-le-mul-left, mod-eq-of-lt, mod-mod-of-dvd, dvd-of-mod-eq-zero, div-add-mod'}
 use native.Mathlib.Omega.{arith}
-use Rattle.pinwheel.specs.Search.{last, first, total, largest, smallest}
-use Rattle.pinwheel.specs.Rule.{exponent, period, sum, limit, fits, base, periodsOf, earlier, taken, freeOffset, sends, offsetsFor, offsetsOf}
+use Rattle.pinwheel.specs.Search.{last, total, largest, smallest}
+use Rattle.pinwheel.specs.Rule.{exponent, period, sum, limit, fits, base, periodsOf, earlier, taken, freeOffset, sends, offsetsOf}
 use Rattle.pinwheel.specs.Deal.{Outcome, accepted, refused, dealt}
 use Rattle.pinwheel.proofs.Laws.Search.{lt-or-le, first-passes, first-before}
 use Rattle.pinwheel.proofs.Laws.Periods.{powers, exponent-most, period-within, period-least}
@@ -29,15 +28,23 @@ use Rattle.pinwheel.proofs.Laws.Offsets.{earlier-why, earlier-below, ea
 use Rattle.pinwheel.proofs.Laws.Checks.{Good, passed-good, refuse-crowded, accept}
 use Rattle.pinwheel.proofs.Laws.Room.{base-harmonic, base-roomy, periods-long, period-at}
 
+-- Rules 1 and 4 in words: b is a base from 1 to the smallest gap that fits, and no larger one of them does.
+abbrev pub LargestFit : ℕ → List ℕ → ℕ → Type 0
+LargestFit f gaps b = (1 ≤ b) × (b ≤ smallest gaps) × (fits f b gaps ≡ true) × ((k : ℕ) → b < k → k ≤ smallest gaps → fits f k gaps ≡ false)
+
+-- None of them fits (01: crowded).
+abbrev pub NoneFits : ℕ → List ℕ → Type 0
+NoneFits f gaps = (b : ℕ) → 1 ≤ b → b ≤ smallest gaps → fits f b gaps ≡ false
+
 module _ (f : ℕ) (two : 2 ≤ f) where
-  -- LAW 1, rule 2. The period is the largest base × factor^j not above the gap.
+  -- Rule 2. The period is the largest base × factor^j not above the gap.
   pub period-largest : (b g : ℕ) → 1 ≤ b → b ≤ g
       → ((j : ℕ) × (period f b g ≡ b * f ^ j)) × (period f b g ≤ g) × ((j : ℕ) → b * f ^ j ≤ g → b * f ^ j ≤ period f b g)
   unfolding period
   period-largest b g one h =
       ((exponent f b g, refl), period-within f two b g h, λ j m. mul-le-mul-left b (powers f two j (exponent f b g) (exponent-most f two b g j one m)))
 
-  -- LAW 2, rule 3. With L = base × factor^J, a common multiple of the periods, a base fits just when the sum of L / period is at most L:
+  -- Rule 3. With L = base × factor^J, a common multiple of the periods, a base fits just when the sum of L / period is at most L:
   -- the reciprocals of the periods sum to at most 1.
   pub fits-reciprocals : (b : ℕ) (gaps : List ℕ) → 1 ≤ b
       → ((i : ℕ) → i < length gaps → limit f b gaps / period f b (getD gaps i 0) * period f b (getD gaps i 0) ≡ limit f b gaps)
@@ -46,17 +53,18 @@ module _ (f : ℕ) (two : 2 ≤ f) where
   fits-reciprocals b gaps one = (λ i l. limit-common f two b gaps i one l, rw (sum-shares f two b gaps one) (leb-true _ _, le-leb _ _))
 
   -- The outcome on lists that are as 1 and 5 ask.
-  outcome-base : (gaps offsets periods : List ℕ) → Good gaps offsets periods → 1 ≤ base f gaps → dealt f gaps offsets periods .0 ≡ accepted (base f gaps)
-  outcome-base gaps offsets periods g h = sym (ap (λ (r : Outcome × List ℕ × List ℕ). r .0) (accept f gaps offsets periods g h _ _ _ refl refl refl))
+  outcome-base : (gaps offsets periods : List ℕ) → Good gaps offsets periods → 1 ≤ base f gaps
+      → dealt f gaps offsets periods .0 ≡ accepted (base f gaps)
+  outcome-base gaps offsets periods g h =
+      sym (ap (λ (r : Outcome × List ℕ × List ℕ). r .0) (accept f gaps offsets periods g h _ _ _ refl refl refl))
 
   outcome-none : (gaps offsets periods : List ℕ) → Good gaps offsets periods → base f gaps ≡ 0 → dealt f gaps offsets periods .0 ≡ refused 11 0
   outcome-none gaps offsets periods g z = sym (ap (λ (r : Outcome × List ℕ × List ℕ). r .0) (refuse-crowded f gaps offsets periods g z))
 
-  -- LAW 3, rules 1 and 4. Accepted with the base b, just when the lists are as 1 and 5 ask and b fits, and no larger base up to the smallest gap does.
+  -- Rules 1 and 4. Accepted with the base b just when the lists are as 1 and 5 ask and b is the largest fitting base.
   pub accepted-when : (gaps offsets periods : List ℕ) (b : ℕ)
-      → (dealt f gaps offsets periods .0 ≡ accepted b) ↔ (Good gaps offsets periods × ((1 ≤ b) × (b ≤ smallest gaps) × (fits f b gaps ≡ true)
-      × ((k : ℕ) → b < k → k ≤ smallest gaps → fits f k gaps ≡ false)))
-  accepted-when gaps offsets periods b = (λ e. (good e, largest-fits (lt-or-le 0 (base f gaps)) e), back)
+      → (dealt f gaps offsets periods .0 ≡ accepted b) ↔ (Good gaps offsets periods × LargestFit f gaps b)
+  accepted-when gaps offsets periods b = (λ e. (good e, fit e (lt-or-le 0 (base f gaps))), back)
     where
       apart : (number place : ℕ) → dealt f gaps offsets periods .0 ≡ accepted b → dealt f gaps offsets periods .0 ≡ refused number place → ⊥
       apart number place e q = let z : _≡_ {A = ℕ} 0 1 = cc in omega arith
@@ -64,30 +72,30 @@ module _ (f : ℕ) (two : 2 ≤ f) where
       good : dealt f gaps offsets periods .0 ≡ accepted b → Good gaps offsets periods
       good e = passed-good f gaps offsets periods (λ place. apart 1 place e) (λ place. apart 5 place e)
 
-      largest-fits : (0 < base f gaps) ⊎ (base f gaps ≤ 0) → dealt f gaps offsets periods .0 ≡ accepted b
-          → (1 ≤ b) × (b ≤ smallest gaps) × (fits f b gaps ≡ true) × ((k : ℕ) → b < k → k ≤ smallest gaps → fits f k gaps ≡ false)
-      largest-fits (inl l) e =
+      fit : dealt f gaps offsets periods .0 ≡ accepted b → (0 < base f gaps) ⊎ (base f gaps ≤ 0) → LargestFit f gaps b
+      fit e (inl l) =
           let q : b ≡ base f gaps = cc (outcome-base gaps offsets periods (good e) l) in
           let w = base-fits f two gaps l in
           rw q (l, w .0, w .1, w .2)
-      largest-fits (inr m) e = absurd (apart 11 0 e (outcome-none gaps offsets periods (good e) (omega arith)))
+      fit e (inr m) = absurd (apart 11 0 e (outcome-none gaps offsets periods (good e) (omega arith)))
 
-      back : Good gaps offsets periods × ((1 ≤ b) × (b ≤ smallest gaps) × (fits f b gaps ≡ true) × ((k : ℕ) → b < k → k ≤ smallest gaps → fits f k gaps ≡ false))
-          → dealt f gaps offsets periods .0 ≡ accepted b
-      back (g, (one, within, fit, none)) =
-          let q : b ≡ base f gaps = tried-hit f two gaps b (record { within = within; none = none }) fit in
+      back : Good gaps offsets periods × LargestFit f gaps b → dealt f gaps offsets periods .0 ≡ accepted b
+      back (g, (one, within, fits-b, none)) =
+          let q : b ≡ base f gaps = tried-hit f two gaps b (record { within = within; none = none }) fits-b in
           rw q (outcome-base gaps offsets periods g (rw q at one))
 
-  -- LAW 3. Refused with 11 just when they are and no base from 1 to the smallest gap fits.
-  pub crowded-when : (gaps offsets periods : List ℕ)
-      → (dealt f gaps offsets periods .0 ≡ refused 11 0) ↔ (Good gaps offsets periods × ((b : ℕ) → 1 ≤ b → b ≤ smallest gaps → fits f b gaps ≡ false))
+  -- Rule 4. Refused with 11 just when the lists are as 1 and 5 ask and no base from 1 to the smallest gap fits.
+  pub crowded-when : (gaps offsets periods : List ℕ) → (dealt f gaps offsets periods .0 ≡ refused 11 0) ↔ (Good gaps offsets periods × NoneFits f gaps)
   crowded-when gaps offsets periods =
       (λ e. (good e, none e (lt-or-le 0 (base f gaps))), λ w. outcome-none gaps offsets periods (w .0) (base-none f two gaps .1 (w .1)))
     where
-      good : dealt f gaps offsets periods .0 ≡ refused 11 0 → Good gaps offsets periods
-      good e = passed-good f gaps offsets periods (λ place q. let z : _≡_ {A = ℕ} 11 1 = cc in omega arith) (λ place q. let z : _≡_ {A = ℕ} 11 5 = cc in omega arith)
+      other : (number place : ℕ) → (11 ≡ number → ⊥) → dealt f gaps offsets periods .0 ≡ refused 11 0 → dealt f gaps offsets periods .0 ≡ refused number place → ⊥
+      other number place n e q = n cc
 
-      none : dealt f gaps offsets periods .0 ≡ refused 11 0 → (0 < base f gaps) ⊎ (base f gaps ≤ 0) → (b : ℕ) → 1 ≤ b → b ≤ smallest gaps → fits f b gaps ≡ false
+      good : dealt f gaps offsets periods .0 ≡ refused 11 0 → Good gaps offsets periods
+      good e = passed-good f gaps offsets periods (λ place. other 1 place (omega arith) e) (λ place. other 5 place (omega arith) e)
+
+      none : dealt f gaps offsets periods .0 ≡ refused 11 0 → (0 < base f gaps) ⊎ (base f gaps ≤ 0) → NoneFits f gaps
       none e (inl l) = absurd (let z : _≡_ {A = ℕ} 0 1 = cc (outcome-base gaps offsets periods (good e) l) in omega arith)
       none e (inr m) = base-none f two gaps .0 (omega arith)
 
@@ -115,7 +123,8 @@ earlier-when ps i k = (earlier-why ps (getD ps i 0) i k, go)
     go (inl l) = earlier-below ps (getD ps i 0) i k l
     go (inr (e, l)) = earlier-same ps (getD ps i 0) i k e l
 
-pub taken-when : (ps os : List ℕ) (i t : ℕ) → (taken ps os (getD ps i 0) i t ≡ true) ↔ ((k : ℕ) × (k < length ps) × Earlier ps i k × SendsIn ps os k t)
+pub taken-when : (ps os : List ℕ) (i t : ℕ)
+    → (taken ps os (getD ps i 0) i t ≡ true) ↔ ((k : ℕ) × (k < length ps) × Earlier ps i k × SendsIn ps os k t)
 taken-when ps os i t = (λ e. out (taken-why ps os (getD ps i 0) i t e), into)
   where
     out : (k : ℕ) × (k < length ps) × (earlier ps (getD ps i 0) i k ≡ true) × (sends (getD ps k 0) (getD os k 0) t ≡ true)
@@ -135,9 +144,10 @@ module _ (f : ℕ) (two : 2 ≤ f) (gaps : List ℕ) (h : 1 ≤ base f gaps) whe
       let d = base-harmonic f two gaps h .divides k i m l (earlier-le ps (getD ps i 0) i k (earlier-when ps i k .1 e)) in
       mod-mod-of-dvd (getD ps k 0) t (dvd-of-mod-eq-zero (getD ps k 0) (omega (arith, div-add-mod' (getD ps i 0) (getD ps k 0))))
 
-  -- LAW 4. An offset is not taken, by the test, just when it is free.
+  -- Rule 5. An offset is not taken, by the test, just when it is free.
   pub free-when : (os : List ℕ) (i o : ℕ) → i < length ps → o < getD ps i 0 → (taken ps os (getD ps i 0) i o ≡ false) ↔ Free ps os i o
-  free-when os i o l m = (λ e t k n w s q. false≢true (sym e ∙ taken-when ps os i o .1 (k, n, w, at t k n w s q)), λ free. go free (taken ps os (getD ps i 0) i o) refl)
+  free-when os i o l m =
+      (λ e t k n w s q. false≢true (sym e ∙ taken-when ps os i o .1 (k, n, w, at t k n w s q)), λ free. go free (taken ps os (getD ps i 0) i o) refl)
     where
       at : (t k : ℕ) → k < length ps → Earlier ps i k → t % getD ps i 0 ≡ o → SendsIn ps os k t → SendsIn ps os k o
       at t k n w s q = rw s at (same-class i k t l n w) ∙ q
@@ -149,7 +159,7 @@ module _ (f : ℕ) (two : 2 ≤ f) (gaps : List ℕ) (h : 1 ≤ base f gaps) whe
       go free true e = absurd (hit free (taken-when ps os i o .0 e))
       go free false e = e
 
-  -- LAW 5. Whatever the others' offsets, a free one always exists.
+  -- Rule 5. Whatever the others' offsets, a free one always exists.
   pub free-exists : (os : List ℕ) (i : ℕ) → i < length ps → (o : ℕ) × (o < getD ps i 0) × Free ps os i o
   unfolding freeOffset
   free-exists os i l =
@@ -167,7 +177,7 @@ module _ (f : ℕ) (two : 2 ≤ f) (gaps : List ℕ) (h : 1 ≤ base f gaps) whe
   offset-at : (i : ℕ) → i < length ps → (getD os i 0 ≡ freeOffset ps os (getD ps i 0) i) × (getD os i 0 < getD ps i 0)
   offset-at i l = let e = settled .each i l in (e, rw e (base-roomy f two gaps h .room os i l))
 
-  -- LAW 5. Each offset dealt is free, and no smaller one is: some child that goes before sends in a slot of it.
+  -- Rule 5. Each offset dealt is free, and no smaller one is: some child that goes before sends in a slot of it.
   pub offset-smallest : (i : ℕ) → i < length ps → (getD os i 0 < getD ps i 0) × Free ps os i (getD os i 0)
       × ((o : ℕ) → o < getD os i 0 → (t : ℕ) × (k : ℕ) × (k < length ps) × Earlier ps i k × (t % getD ps i 0 ≡ o) × SendsIn ps os k t)
   unfolding freeOffset
@@ -176,20 +186,24 @@ module _ (f : ℕ) (two : 2 ≤ f) (gaps : List ℕ) (h : 1 ≤ base f gaps) whe
       below : getD os i 0 < getD ps i 0
       below = offset-at i l .1
 
+      not-taken : ℕ → Bool
+      not-taken o = not (taken ps os (getD ps i 0) i o)
+
       e : getD os i 0 ≡ freeOffset ps os (getD ps i 0) i
       e = offset-at i l .0
 
       free : Free ps os i (getD os i 0)
-      free = free-when os i (getD os i 0) l below .0 (rw e (not-true _ (first-passes (λ o. not (taken ps os (getD ps i 0) i o)) (getD ps i 0) 0 (omega (arith, below, e)))))
+      free = free-when os i (getD os i 0) l below .0 (rw e (not-true _ (first-passes not-taken (getD ps i 0) 0 (omega (arith, below, e)))))
 
       smaller : (o : ℕ) → o < getD os i 0 → (t : ℕ) × (k : ℕ) × (k < length ps) × Earlier ps i k × (t % getD ps i 0 ≡ o) × SendsIn ps os k t
-      smaller o m = at (taken-when ps os i o .0 (not-false _ (first-before (λ o. not (taken ps os (getD ps i 0) i o)) (getD ps i 0) 0 o (omega arith) (rw e at m))))
+      smaller o m =
+          at (taken-when ps os i o .0 (not-false _ (first-before not-taken (getD ps i 0) 0 o (omega arith) (rw e at m))))
         where
           at : (k : ℕ) × (k < length ps) × Earlier ps i k × SendsIn ps os k o
               → (t : ℕ) × (k : ℕ) × (k < length ps) × Earlier ps i k × (t % getD ps i 0 ≡ o) × SendsIn ps os k t
           at (k, n, w, s) = (o, k, n, w, mod-eq-of-lt (omega (arith, below)), s)
 
-  -- LAW 6. Two children never send in the same slot.
+  -- Rules 5 and 6. Two children never send in the same slot.
   pub never-together : (i k t : ℕ) → i < length ps → k < length ps → (i ≡ k → ⊥) → SendsIn ps os i t → SendsIn ps os k t → ⊥
   never-together i k t l m n s q = go (lt-or-le (getD ps k 0) (getD ps i 0)) (lt-or-le (getD ps i 0) (getD ps k 0)) (lt-or-le k i)
     where
@@ -199,26 +213,28 @@ module _ (f : ℕ) (two : 2 ≤ f) (gaps : List ℕ) (h : 1 ≤ base f gaps) whe
       later-k : Earlier ps k i → ⊥
       later-k w = offset-smallest k m .1 t i l w q s
 
-      go : (getD ps k 0 < getD ps i 0) ⊎ (getD ps i 0 ≤ getD ps k 0) → (getD ps i 0 < getD ps k 0) ⊎ (getD ps k 0 ≤ getD ps i 0) → (k < i) ⊎ (i ≤ k) → ⊥
+      go : (getD ps k 0 < getD ps i 0) ⊎ (getD ps i 0 ≤ getD ps k 0) → (getD ps i 0 < getD ps k 0) ⊎ (getD ps k 0 ≤ getD ps i 0)
+          → (k < i) ⊎ (i ≤ k) → ⊥
       go (inl a) b c = later-i (inl a)
       go (inr a) (inl b) c = later-k (inl b)
       go (inr a) (inr b) (inl c) = later-i (inr (omega arith, c))
       go (inr a) (inr b) (inr c) = later-k (inr (omega arith, omega arith))
 
-  -- LAW 6. In every run of `period` slots, from any slot s on, a child sends exactly once.
+  -- Rule 6. In every run of `period` slots, from any slot s on, a child sends exactly once.
   pub once-a-period : (i s : ℕ) → i < length ps
       → (t : ℕ) × (s ≤ t) × (t < s + getD ps i 0) × SendsIn ps os i t × ((u : ℕ) → s ≤ u → u < s + getD ps i 0 → SendsIn ps os i u → u ≡ t)
   once-a-period i s l = class-once (getD ps i 0) (getD os i 0) s (offset-at i l .1)
 
-  -- LAW 7. The base is the smallest period dealt.
-  pub base-smallest : 1 ≤ length gaps → ((i : ℕ) → i < length ps → base f gaps ≤ getD ps i 0) × ((i : ℕ) × (i < length ps) × (getD ps i 0 ≡ base f gaps))
+  -- The base is also the smallest period dealt.
+  pub base-smallest : 1 ≤ length gaps
+      → ((i : ℕ) → i < length ps → base f gaps ≤ getD ps i 0) × ((i : ℕ) × (i < length ps) × (getD ps i 0 ≡ base f gaps))
   base-smallest some = (λ i l. rw (period-at f two gaps h i l) (period-least f two (base f gaps) (getD gaps i 0)), go (smallest-met gaps some))
     where
       go : (i : ℕ) × (i < length gaps) × (getD gaps i 0 ≡ smallest gaps) → (i : ℕ) × (i < length ps) × (getD ps i 0 ≡ base f gaps)
-      go (i, m, e) = let l : i < length ps = rw (periods-long f two gaps h) m in (i, l, period-at f two gaps h i l ∙ rw e (base-period f two gaps h))
+      go (i, m, e) =
+          let l : i < length ps = rw (periods-long f two gaps h) m in (i, l, period-at f two gaps h i l ∙ rw e (base-period f two gaps h))
 
--- Fitting does not rise or fall with the base: of four gaps of 4 the bases 1, 2 and 4 fit, and 3 does not. So each base has to be tried.
-pub fits-unordered : (fits 2 1 (4 ∷ 4 ∷ 4 ∷ 4 ∷ []) ≡ true) × (fits 2 2 (4 ∷ 4 ∷ 4 ∷ 4 ∷ []) ≡ true) × (fits 2 3 (4 ∷ 4 ∷ 4 ∷ 4 ∷ []) ≡ false)
-    × (fits 2 4 (4 ∷ 4 ∷ 4 ∷ 4 ∷ []) ≡ true)
+-- Fitting neither rises nor falls with the base: of four gaps of 4 the bases 1, 2 and 4 fit, and 3 does not. So no base may be left out for the sake of another.
+pub fits-unordered : map (λ b. fits 2 b (4 ∷ 4 ∷ 4 ∷ 4 ∷ [])) (1 ∷ 2 ∷ 3 ∷ 4 ∷ []) ≡ true ∷ true ∷ false ∷ true ∷ []
 unfolding fits sum limit exponent last total largest
-fits-unordered = (refl, refl, refl, refl)
+fits-unordered = refl

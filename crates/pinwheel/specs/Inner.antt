@@ -1,7 +1,7 @@
 -- What the inner functions ask of their callers and tell them. The public promise cites none of this.
 use Prim.Native.Nat.{ℕ, _<_, _≤_}
 use mathlib.Core.Path.{_≡_}
-use mathlib.Core.Bool.{Bool, true}
+use mathlib.Core.Bool.{true}
 use mathlib.Core.List.{List}
 use lib.ListN.{length, getD}
 use Rattle.pinwheel.specs.Rule.{taken, freeOffset, level}

@@ -1,8 +1,9 @@
--- 01, "The slot rule": Chan and Chin's single-integer reduction (Algorithmica, 1993). The periods are base times powers of the factor f, which is 2 in 01.
+-- 01, "The slot rule": Chan and Chin's single-integer reduction (Algorithmica, 1993), in the family that source document 001 builds on.
+-- The periods are the base times powers of the factor f, which is 2 in 01.
 -- A child is named by its index in the lists of gaps, periods and offsets; `getD xs i 0` is the entry at index i.
 use Prim.Native.Nat.{ℕ, zero, suc, _+_, _*_, _-_, _^_, _%_}
-use mathlib.Core.Bool.{Bool, true, false, not, cond, _&&_, _||_}
-use mathlib.Core.List.{List, [], _∷_, map}
+use mathlib.Core.Bool.{Bool, not, cond, _&&_, _||_}
+use mathlib.Core.List.{List, map}
 use lib.Dec.{eqb, ltb, leb}
 use lib.ListN.{length, getD, set, replicate}
 use Rattle.pinwheel.specs.Search.{last, first, any, total, largest, smallest}

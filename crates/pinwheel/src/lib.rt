@@ -5,7 +5,6 @@ mod periods;
 
 ghost use mathlib.Core.Path.{_≡_};
 ghost use Prim.Native.Nat.{_<_};
-ghost use lib.ListN.{length};
 ghost use Rattle.pinwheel.specs.Deal.{outcome, dealt, firstBad};
 
 // The base that was dealt by, or the number and the place of a refusal.
@@ -28,7 +27,8 @@ fn first_bad(gaps: &[u16]) -> usize
 }
 
 pub fn deal(gaps: &[u16], offsets: &mut [u16], periods: &mut [u16]) -> Answer
-    ensures { λ r. ⌜ (outcome r, now (offsets .exit), now (periods .exit)) ≡ dealt 2 (now (gaps .entry)) (now (offsets .entry)) (now (periods .entry)) ⌝ }
+    ensures { λ r. ⌜ (outcome r, now (offsets .exit), now (periods .exit))
+        ≡ dealt 2 (now (gaps .entry)) (now (offsets .entry)) (now (periods .entry)) ⌝ }
 {
     let n = gaps.len();
     if offsets.len() != n {

@@ -5,7 +5,7 @@ ghost use Prim.Native.Nat.{ℕ, _≤_, _<_, min};
 ghost use lib.Dec.{eqb, ltb};
 ghost use lib.ListN.{length, getD};
 ghost use Rattle.pinwheel.specs.Search.{firstIn};
-ghost use Rattle.pinwheel.specs.Rule.{sends, taken, freeOffset, level, offsetsFor};
+ghost use Rattle.pinwheel.specs.Rule.{sends, taken, offsetsFor};
 ghost use Rattle.pinwheel.specs.Inner.{Roomy, Passed, Level, Next};
 
 // Child k, of this period, goes before the child of period p and index i.

@@ -5,14 +5,14 @@ use mathlib.Core.Bool.{true, false, false≢true}
 use mathlib.Core.List.{List, [], _∷_, map, map-map}
 use mathlib.Core.Logic.{_⊎_, inl, inr, _↔_}
 use lib.ListN.{length, getD}
-use borrow.Author.Tests.{le-leb, lt-leb, leb-true}
+use borrow.Author.Tests.{le-leb, lt-leb}
 use native.Mathlib.Nat.{pow-zero, pow-suc, mul-one, one-mul, mul-le-mul-left, div-eq-of-eq-mul-left, div-lt-iff-lt-mul}
 use native.Mathlib.Nat.{min-le-left, min-le-right, min-eq-left, min-eq-right, le-max-left, le-max-right, max-eq-left, max-eq-right}
 use native.Mathlib.Omega.{arith}
 use Rattle.pinwheel.specs.Search.{last, total, largest, least, smallest}
 use Rattle.pinwheel.specs.Rule.{exponent, period, greatest, sum, limit, fits, base}
 use Rattle.pinwheel.proofs.Laws.Search.{last-is, lt-or-le, last-le, last-passes, last-above}
-use Rattle.pinwheel.proofs.Laws.Periods.{below-multiple, exponent-is, exponent-mono, period-mono, period-least, period-divides, period-up, power-split}
+use Rattle.pinwheel.proofs.Laws.Periods.{below-multiple, exponent-is, exponent-mono, period-mono, period-divides, period-up, power-split}
 
 -- The smallest of x and a list is at most each of them, and one of them.
 least-within : (x : ℕ) (xs : List ℕ) (i : ℕ) → i < suc (length xs) → least x xs ≤ getD (x ∷ xs) i 0
@@ -45,7 +45,7 @@ unfolding smallest
 smallest-met [] l = absurd (omega arith)
 smallest-met (x ∷ xs) l = least-met x xs
 
--- The largest number is at least each, and a bound of each bounds it.
+-- The largest number is at least each.
 pub largest-above : (xs : List ℕ) (i : ℕ) → i < length xs → getD xs i 0 ≤ largest xs
 unfolding largest
 largest-above [] i l = absurd (omega arith)
@@ -99,7 +99,8 @@ module _ (f : ℕ) (two : 2 ≤ f) where
   -- The sum counts, for each child, how often it sends in `limit` slots.
   pub sum-shares : (b : ℕ) (gaps : List ℕ) → 1 ≤ b → sum f b gaps ≡ total (map (λ g. limit f b gaps / period f b g) gaps)
   unfolding sum limit period
-  sum-shares b gaps one = rw map-map (ap total (map-agrees _ _ gaps (λ i l. sym (share b (greatest f b gaps) (exponent f b (getD gaps i 0)) one (below i l)))))
+  sum-shares b gaps one =
+      rw map-map (ap total (map-agrees _ _ gaps (λ i l. sym (share b (greatest f b gaps) (exponent f b (getD gaps i 0)) one (below i l)))))
     where
       below : (i : ℕ) → i < length gaps → exponent f b (getD gaps i 0) ≤ greatest f b gaps
       below i l = rw (greatest-largest b gaps one) (exponent-mono f two b (getD gaps i 0) (largest gaps) one (largest-above gaps i l))

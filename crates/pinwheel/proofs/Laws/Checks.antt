@@ -1,7 +1,7 @@
 -- The checks of the slot rule called alone, one law for each way that it ends.
 use Prim.Native.Nat.{ℕ, _≤_, _<_}
 use mathlib.Core.Path.{_≡_, refl, sym, _∙_, ap}
-use mathlib.Core.Bool.{Bool, true, false, not, cond, _||_, false≢true}
+use mathlib.Core.Bool.{Bool, true, false, cond, _||_, false≢true}
 use mathlib.Core.List.{List}
 use mathlib.Core.Logic.{_⊎_, inl, inr}
 use lib.Dec.{eqb, ltb}
@@ -9,7 +9,6 @@ use lib.ListN.{length, getD}
 use borrow.Author.Tests.{lt-ltb, le-ltb, eq-eqb, ne-eqb, eqb-false, ltb-false}
 use native.Mathlib.Decide.{ℕ-discrete}
 use native.Mathlib.Omega.{arith}
-use Rattle.pinwheel.specs.Search.{first}
 use Rattle.pinwheel.specs.Rule.{base, periodsOf, offsetsOf}
 use Rattle.pinwheel.specs.Deal.{Outcome, accepted, refused, badGap, firstBad, dealt}
 use Rattle.pinwheel.proofs.Laws.Search.{lt-or-le, first-before, first-passes}
@@ -42,24 +41,29 @@ module _ (f : ℕ) (gaps offsets periods : List ℕ) where
   unfolding dealt
   refuse-offsets n = simp (ne-eqb _ _ n)
 
-  pub refuse-periods : length offsets ≡ length gaps → (length periods ≡ length gaps → ⊥) → (refused 1 0, offsets, periods) ≡ dealt f gaps offsets periods
+  pub refuse-periods : length offsets ≡ length gaps → (length periods ≡ length gaps → ⊥)
+      → (refused 1 0, offsets, periods) ≡ dealt f gaps offsets periods
   unfolding dealt
   refuse-periods e n = simp (eq-eqb _ _ e, ne-eqb _ _ n)
 
-  pub refuse-none : length offsets ≡ length gaps → length periods ≡ length gaps → length gaps ≡ 0 → (refused 5 0, offsets, periods) ≡ dealt f gaps offsets periods
+  pub refuse-none : length offsets ≡ length gaps → length periods ≡ length gaps → length gaps ≡ 0
+      → (refused 5 0, offsets, periods) ≡ dealt f gaps offsets periods
   unfolding dealt
   refuse-none e q z = simp (eq-eqb _ _ e, eq-eqb _ _ q, eq-eqb _ _ z)
 
-  pub refuse-many : length offsets ≡ length gaps → length periods ≡ length gaps → 63 < length gaps → (refused 5 0, offsets, periods) ≡ dealt f gaps offsets periods
+  pub refuse-many : length offsets ≡ length gaps → length periods ≡ length gaps → 63 < length gaps
+      → (refused 5 0, offsets, periods) ≡ dealt f gaps offsets periods
   unfolding dealt
   refuse-many e q l = let n : length gaps ≡ 0 → ⊥ = omega arith in simp (eq-eqb _ _ e, eq-eqb _ _ q, ne-eqb _ _ n, lt-ltb _ _ l)
 
-  pub refuse-gap : length offsets ≡ length gaps → length periods ≡ length gaps → (length gaps ≡ 0 → ⊥) → length gaps ≤ 63 → (bad : ℕ) → bad ≡ firstBad gaps → bad < length gaps
+  pub refuse-gap : length offsets ≡ length gaps → length periods ≡ length gaps → (length gaps ≡ 0 → ⊥) → length gaps ≤ 63 → (bad : ℕ)
+      → bad ≡ firstBad gaps → bad < length gaps
       → (refused 5 bad, offsets, periods) ≡ dealt f gaps offsets periods
   unfolding dealt
   refuse-gap e q n m bad b l = rw b (simp (eq-eqb _ _ e, eq-eqb _ _ q, ne-eqb _ _ n, le-ltb _ _ m, lt-ltb _ _ (rw b at l)))
 
-  no-bad : ((i : ℕ) → i < length gaps → (1 ≤ getD gaps i 0) × (getD gaps i 0 ≤ 1024)) → (firstBad gaps < length gaps) ⊎ (length gaps ≤ firstBad gaps)
+  no-bad : ((i : ℕ) → i < length gaps → (1 ≤ getD gaps i 0) × (getD gaps i 0 ≤ 1024))
+      → (firstBad gaps < length gaps) ⊎ (length gaps ≤ firstBad gaps)
       → length gaps ≤ firstBad gaps
   no-bad each (inl l) = absurd (bad-limits gaps l (each (firstBad gaps) l))
   no-bad each (inr m) = m
@@ -76,24 +80,29 @@ module _ (f : ℕ) (gaps offsets periods : List ℕ) where
   pub refuse-crowded : Good gaps offsets periods → base f gaps ≡ 0 → (refused 11 0, offsets, periods) ≡ dealt f gaps offsets periods
   refuse-crowded g z = sym (good-dealt g ∙ simp (eq-eqb _ _ z))
 
-  pub accept : Good gaps offsets periods → 1 ≤ base f gaps → (b : ℕ) (os ps : List ℕ) → b ≡ base f gaps → os ≡ offsetsOf f gaps → ps ≡ periodsOf f gaps
+  pub accept : Good gaps offsets periods → 1 ≤ base f gaps → (b : ℕ) (os ps : List ℕ) → b ≡ base f gaps → os ≡ offsetsOf f gaps
+      → ps ≡ periodsOf f gaps
       → (accepted b, os, ps) ≡ dealt f gaps offsets periods
   accept g h b os ps e o p = let n : base f gaps ≡ 0 → ⊥ = omega arith in rw (e, o, p) (sym (good-dealt g ∙ simp (ne-eqb _ _ n)))
 
   -- The other way round: what is refused neither by 1 nor by 5 is as they ask.
-  pub passed-good : ((place : ℕ) → dealt f gaps offsets periods .0 ≡ refused 1 place → ⊥) → ((place : ℕ) → dealt f gaps offsets periods .0 ≡ refused 5 place → ⊥)
+  pub passed-good : ((place : ℕ) → dealt f gaps offsets periods .0 ≡ refused 1 place → ⊥)
+      → ((place : ℕ) → dealt f gaps offsets periods .0 ≡ refused 5 place → ⊥)
       → Good gaps offsets periods
   passed-good one five = offsets-same (ℕ-discrete (length offsets) (length gaps))
     where
-      told : (number place : ℕ) → (refused number place, offsets, periods) ≡ dealt f gaps offsets periods → dealt f gaps offsets periods .0 ≡ refused number place
+      told : (number place : ℕ) → (refused number place, offsets, periods) ≡ dealt f gaps offsets periods
+          → dealt f gaps offsets periods .0 ≡ refused number place
       told number place q = sym (ap (λ (r : Outcome × List ℕ × List ℕ). r .0) q)
 
       in-limits : length offsets ≡ length gaps → length periods ≡ length gaps → (length gaps ≡ 0 → ⊥) → length gaps ≤ 63
           → (firstBad gaps < length gaps) ⊎ (length gaps ≤ firstBad gaps) → Good gaps offsets periods
       in-limits o p n m (inl l) = absurd (five (firstBad gaps) (told 5 (firstBad gaps) (refuse-gap o p n m (firstBad gaps) refl l)))
-      in-limits o p n m (inr l) = record { offsets-long = o; periods-long = p; some = omega arith; few = m; limits = λ i k. gap-limits gaps i (omega arith) }
+      in-limits o p n m (inr l) =
+          record { offsets-long = o; periods-long = p; some = omega arith; few = m; limits = λ i k. gap-limits gaps i (omega arith) }
 
-      few : length offsets ≡ length gaps → length periods ≡ length gaps → (length gaps ≡ 0 → ⊥) → (63 < length gaps) ⊎ (length gaps ≤ 63) → Good gaps offsets periods
+      few : length offsets ≡ length gaps → length periods ≡ length gaps → (length gaps ≡ 0 → ⊥) → (63 < length gaps) ⊎ (length gaps ≤ 63)
+          → Good gaps offsets periods
       few o p n (inl l) = absurd (five 0 (told 5 0 (refuse-many o p l)))
       few o p n (inr m) = in-limits o p n m (lt-or-le (firstBad gaps) (length gaps))
 

@@ -34,7 +34,8 @@ count-room p (suc n) h = go (p n) refl (count-room p n) h
     more : (c : ℕ) × (c < n) × (p c ≡ false) → (c : ℕ) × (c < suc n) × (p c ≡ false)
     more (c, l, e) = (c, omega arith, e)
 
-    go : (t : Bool) → p n ≡ t → (count p n < n → (c : ℕ) × (c < n) × (p c ≡ false)) → bit t + count p n < suc n → (c : ℕ) × (c < suc n) × (p c ≡ false)
+    go : (t : Bool) → p n ≡ t → (count p n < n → (c : ℕ) × (c < n) × (p c ≡ false)) → bit t + count p n < suc n
+        → (c : ℕ) × (c < suc n) × (p c ≡ false)
     go true e ih l = more (ih (omega arith))
     go false e ih l = (n, omega arith, e)
 
@@ -97,7 +98,8 @@ count-any t (suc r) k m = omega (arith, count-either (λ c. t c k) (λ c. any (t
 pub sumOf-le : (g h : ℕ → ℕ) (r k : ℕ) → ((i : ℕ) → k ≤ i → i < k + r → g i ≤ h i) → sumOf g r k ≤ sumOf h r k
 unfolding sumOf
 sumOf-le g h zero k each = omega arith
-sumOf-le g h (suc r) k each = omega (arith, each k (omega arith) (omega arith), sumOf-le g h r (k + 1) (λ i lo hi. each i (omega arith) (omega arith)))
+sumOf-le g h (suc r) k each =
+    omega (arith, each k (omega arith) (omega arith), sumOf-le g h r (k + 1) (λ i lo hi. each i (omega arith) (omega arith)))
 
 cond-le : (t : Bool) (n : ℕ) → cond t n 0 ≤ n
 cond-le true n = omega arith
@@ -131,8 +133,11 @@ class-apart p u t e l = go (lt-or-le (u / p) (t / p))
     go (inl m) = omega (arith, mul-le-mul-right p m, suc-mul (u / p) p, div-add-mod' u p, div-add-mod' t p)
     go (inr m) = absurd (omega (arith, mul-le-mul-right p m, div-add-mod' u p, div-add-mod' t p))
 
--- So in each run of p numbers exactly one is of a given class.
-pub class-once : (p o s : ℕ) → o < p → (t : ℕ) × (s ≤ t) × (t < s + p) × (t % p ≡ o) × ((u : ℕ) → s ≤ u → u < s + p → u % p ≡ o → u ≡ t)
+-- Of the p numbers from s on, exactly one is of the class of o.
+abbrev pub Once : ℕ → ℕ → ℕ → Type 0
+Once p o s = (t : ℕ) × (s ≤ t) × (t < s + p) × (t % p ≡ o) × ((u : ℕ) → s ≤ u → u < s + p → u % p ≡ o → u ≡ t)
+
+pub class-once : (p o s : ℕ) → o < p → Once p o s
 class-once p o s l = go (lt-or-le o (s % p))
   where
     low : s % p < p
@@ -146,9 +151,9 @@ class-once p o s l = go (lt-or-le o (s % p))
         at (inr m) (inl n) = absurd (omega (arith, class-apart p t u (e ∙ sym q) n))
         at (inr m) (inr n) = omega arith
 
-    here : (m : ℕ) → s ≤ m * p + o → m * p + o < s + p → (t : ℕ) × (s ≤ t) × (t < s + p) × (t % p ≡ o) × ((u : ℕ) → s ≤ u → u < s + p → u % p ≡ o → u ≡ t)
+    here : (m : ℕ) → s ≤ m * p + o → m * p + o < s + p → Once p o s
     here m a b = let e : (m * p + o) % p ≡ o = rw mul-add-mod-self-right (mod-eq-of-lt l) in (m * p + o, a, b, e, only (m * p + o) a b e)
 
-    go : (o < s % p) ⊎ (s % p ≤ o) → (t : ℕ) × (s ≤ t) × (t < s + p) × (t % p ≡ o) × ((u : ℕ) → s ≤ u → u < s + p → u % p ≡ o → u ≡ t)
+    go : (o < s % p) ⊎ (s % p ≤ o) → Once p o s
     go (inl m) = here (suc (s / p)) (omega (arith, low, suc-mul (s / p) p, div-add-mod' s p)) (omega (arith, suc-mul (s / p) p, div-add-mod' s p))
     go (inr m) = here (s / p) (omega (arith, div-add-mod' s p)) (omega (arith, low, div-add-mod' s p))

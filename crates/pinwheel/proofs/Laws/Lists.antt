@@ -1,6 +1,6 @@
 -- Loops over a list, for lists of any width: a list filled entry by entry, and what is left of a sum, a smallest or a largest number from index i on.
 use Prim.Native.Nat.{ℕ, zero, suc, _+_, _*_, _≤_, _<_, min, max}
-use mathlib.Core.Path.{_≡_, refl, sym, _∙_, ap}
+use mathlib.Core.Path.{_≡_, refl, sym, _∙_}
 use mathlib.Core.List.{List, [], _∷_, map}
 use lib.ListN.{length, getD, set, drop, length-set, length-map, drop-of-length-le}
 use lib.Seq.{drop-cons, getD-set-same, getD-set-other, ext-getD}
@@ -25,7 +25,8 @@ module _ {A B : Type 0} (d : A) (e : B) (h : A → B) where
   pub filled-start : (xs : List A) (ys : List B) → length ys ≡ length xs → Filled xs 0 ys
   filled-start xs ys l = record { most = omega arith; long = l; each = λ k m. absurd (omega arith) }
 
-  pub filled-more : (xs : List A) (i : ℕ) (ys : List B) (y : B) → Filled xs i ys → i < length xs → y ≡ h (getD xs i d) → Filled xs (i + 1) (set ys i y)
+  pub filled-more : (xs : List A) (i : ℕ) (ys : List B) (y : B) → Filled xs i ys → i < length xs → y ≡ h (getD xs i d)
+      → Filled xs (i + 1) (set ys i y)
   filled-more xs i ys y w l q = record {
     most = omega arith;
     long = simp length-set (w .long);
@@ -48,7 +49,8 @@ module _ (h : ℕ → ℕ) (most : ℕ) (xs : List ℕ) where
 
   pub summed-more : (i sum x : ℕ) → Summed h most xs i sum → i < length xs → x ≡ h (getD xs i 0) → x ≤ most → Summed h most xs (i + 1) (sum + x)
   unfolding total
-  summed-more i sum x s l e m = record { upto = omega arith; rest = rw add-one (more ∙ s .rest); few = rw (add-one, mul-suc) (omega (arith, s .few)) }
+  summed-more i sum x s l e m =
+      record { upto = omega arith; rest = rw add-one (more ∙ s .rest); few = rw (add-one, mul-suc) (omega (arith, s .few)) }
     where
       more : sum + x + total (map h (drop (suc i) xs)) ≡ sum + total (map h (drop i xs))
       more = rw (drop-cons xs i 0 l, e) (omega arith)

@@ -1,23 +1,23 @@
 -- The dealing of offsets, for any list of periods: when a child goes before another, what is taken, and that the offsets are the only ones of which
 -- each is the smallest free one.
-use Prim.Native.Nat.{ℕ, zero, suc, _+_, _-_, _≤_, _<_, _%_}
+use Prim.Native.Nat.{ℕ, zero, suc, _+_, _≤_, _<_}
 use mathlib.Core.Path.{_≡_, refl, sym, _∙_, ap}
-use mathlib.Core.Bool.{Bool, true, false, not, _&&_, _||_, false≢true}
+use mathlib.Core.Bool.{Bool, true, false, not, _&&_, false≢true}
 use mathlib.Core.List.{List}
 use mathlib.Core.Logic.{_⊎_, inl, inr}
 use lib.Dec.{eqb, ltb}
 use lib.ListN.{length, getD, set, replicate, length-set, length-replicate}
 use lib.Seq.{getD-set-same, getD-set-other, ext-getD}
-use borrow.Author.Tests.{lt-ltb, le-ltb, eq-eqb, ne-eqb, ltb-true, ltb-false, eqb-true, eqb-false}
+use borrow.Author.Tests.{lt-ltb, le-ltb, eq-eqb, ltb-true, eqb-true, eqb-false}
 use native.Mathlib.Nat.{eq-or-lt-of-le}
 use native.Mathlib.Omega.{arith}
-use Rattle.pinwheel.specs.Search.{any, first, largest}
+use Rattle.pinwheel.specs.Search.{largest}
 use Rattle.pinwheel.specs.Rule.{sends, earlier, taken, freeOffset, turn, level, levels, offsetsFor}
 use Rattle.pinwheel.proofs.Laws.Search.{lt-or-le, any-some, any-at, any-ext, first-ext}
 use Rattle.pinwheel.proofs.Laws.Bases.{largest-above}
 
--- Both parts of a test that holds, and a test whose parts hold.
-pub both : (a b : Bool) → a && b ≡ true → (a ≡ true) × (b ≡ true)
+-- Both parts of a test that holds.
+both : (a b : Bool) → a && b ≡ true → (a ≡ true) × (b ≡ true)
 both true b e = (refl, e)
 both false b e = absurd (false≢true e)
 
@@ -25,11 +25,9 @@ module _ (ps : List ℕ) (p i k : ℕ) where
   -- The dealing order in words.
   pub earlier-why : earlier ps p i k ≡ true → (getD ps k 0 < p) ⊎ ((getD ps k 0 ≡ p) × (k < i))
   unfolding earlier
-  earlier-why e = go (ltb (getD ps k 0) p) refl (lt-or-le (getD ps k 0) p)
-    where
-      go : (t : Bool) → ltb (getD ps k 0) p ≡ t → (getD ps k 0 < p) ⊎ (p ≤ getD ps k 0) → (getD ps k 0 < p) ⊎ ((getD ps k 0 ≡ p) × (k < i))
-      go t q (inl l) = inl l
-      go t q (inr l) = let w = both _ _ (simp (le-ltb _ _ l) at e) in inr (eqb-true _ _ (w .0), ltb-true _ _ (w .1))
+  earlier-why e =
+      elim (lt-or-le (getD ps k 0) p)
+      [ inl l ↦ inl l | inr m ↦ let w = both _ _ (simp (le-ltb _ _ m) at e) in inr (eqb-true _ _ (w .0), ltb-true _ _ (w .1)) ]
 
   pub earlier-below : getD ps k 0 < p → earlier ps p i k ≡ true
   unfolding earlier
@@ -70,7 +68,8 @@ earlier-self ps i = simp (le-ltb (getD ps i 0) (getD ps i 0) (omega arith), le-l
 earlier-not : (ps : List ℕ) (i k : ℕ) → earlier ps (getD ps i 0) i k ≡ true → earlier ps (getD ps k 0) k i ≡ true → ⊥
 earlier-not ps i k w h = go (earlier-why ps (getD ps i 0) i k w) (earlier-why ps (getD ps k 0) k i h)
   where
-    go : (getD ps k 0 < getD ps i 0) ⊎ ((getD ps k 0 ≡ getD ps i 0) × (k < i)) → (getD ps i 0 < getD ps k 0) ⊎ ((getD ps i 0 ≡ getD ps k 0) × (i < k)) → ⊥
+    go : (getD ps k 0 < getD ps i 0) ⊎ ((getD ps k 0 ≡ getD ps i 0) × (k < i))
+        → (getD ps i 0 < getD ps k 0) ⊎ ((getD ps i 0 ≡ getD ps k 0) × (i < k)) → ⊥
     go (inl a) (inl b) = omega arith
     go (inl a) (inr b) = omega arith
     go (inr a) (inl b) = omega arith
@@ -189,7 +188,8 @@ module _ (ps : List ℕ) where
   sofar-rise p os s = record { long = s .long; each = λ k m w. s .each k m (earlier-rise ps p k m w) }
 
   -- So, from any list to start with, every child has the smallest free offset in the end.
-  pub levels-settled : ((k : ℕ) → k < length ps → 1 ≤ getD ps k 0) → (os : List ℕ) → length os ≡ length ps → Settled ps (levels ps (largest ps) 1 os)
+  pub levels-settled : ((k : ℕ) → k < length ps → 1 ≤ getD ps k 0) → (os : List ℕ) → length os ≡ length ps
+      → Settled ps (levels ps (largest ps) 1 os)
   levels-settled positive os e = record { long = all .long; each = λ k m. all .each k m (all-earlier ps k m) }
     where
       start : Sofar ps 1 0 os
@@ -200,7 +200,8 @@ module _ (ps : List ℕ) where
 
   -- And only one list of offsets has that.
   pub settled-unique : ((k : ℕ) → k < length ps → 1 ≤ getD ps k 0) → (os us : List ℕ) → Settled ps os → Settled ps us → os ≡ us
-  settled-unique positive os us s v = ext-getD 0 os us (s .long ∙ sym (v .long)) (λ k m. let l : k < length ps = omega (arith, s .long) in all k l (all-earlier ps k l))
+  settled-unique positive os us s v =
+      ext-getD 0 os us (s .long ∙ sym (v .long)) (λ k m. let l : k < length ps = omega (arith, s .long) in all k l (all-earlier ps k l))
     where
       Agree : ℕ → ℕ → List ℕ → Type 0
       Agree p i _ = (k : ℕ) → k < length ps → earlier ps p i k ≡ true → getD os k 0 ≡ getD us k 0
@@ -223,5 +224,6 @@ module _ (ps : List ℕ) where
   unfolding offsetsFor
   offsets-settled positive = levels-settled positive (replicate (length ps) 0) (length-replicate (length ps) 0)
 
-  pub levels-offsets : ((k : ℕ) → k < length ps → 1 ≤ getD ps k 0) → (os : List ℕ) → length os ≡ length ps → levels ps (largest ps) 1 os ≡ offsetsFor ps
+  pub levels-offsets : ((k : ℕ) → k < length ps → 1 ≤ getD ps k 0) → (os : List ℕ) → length os ≡ length ps
+      → levels ps (largest ps) 1 os ≡ offsetsFor ps
   levels-offsets positive os e = settled-unique positive _ _ (levels-settled positive os e) (offsets-settled positive)

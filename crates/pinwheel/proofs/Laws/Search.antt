@@ -13,17 +13,7 @@ pub lt-or-le : (a b : ℕ) → (a < b) ⊎ (b ≤ a)
 lt-or-le a b = elim (decLt a b) [ yes l ↦ inl l | no m ↦ inr (omega arith) ]
 
 module _ (p : ℕ → Bool) where
-  -- Downwards: the turn that finds, and the turn that does not.
-  pub last-hit : (n : ℕ) → 0 < n → p n ≡ true → last p n ≡ n
-  unfolding last
-  last-hit zero h e = absurd (omega arith)
-  last-hit (suc n) h e = rw e
-
-  pub last-miss : (n : ℕ) → 0 < n → p n ≡ false → last p n ≡ last p (n - 1)
-  unfolding last
-  last-miss zero h e = absurd (omega arith)
-  last-miss (suc n) h e = let k : suc n - 1 ≡ n = omega arith in rw (e, k)
-
+  -- Downwards.
   pub last-le : (n : ℕ) → last p n ≤ n
   unfolding last
   last-le zero = omega arith
@@ -49,7 +39,8 @@ module _ (p : ℕ → Bool) where
   last-above zero k l h = absurd (omega arith)
   last-above (suc n) k l h = go (p (suc n)) refl (last-above n k) l (eq-or-lt-of-le h)
     where
-      go : (t : Bool) → p (suc n) ≡ t → (last p n < k → k ≤ n → p k ≡ false) → cond t (suc n) (last p n) < k → (k ≡ suc n) ⊎ (k < suc n) → p k ≡ false
+      go : (t : Bool) → p (suc n) ≡ t → (last p n < k → k ≤ n → p k ≡ false) → cond t (suc n) (last p n) < k → (k ≡ suc n) ⊎ (k < suc n)
+          → p k ≡ false
       go true e ih l w = absurd (omega arith)
       go false e ih l (inl q) = rw q e
       go false e ih l (inr m) = ih l (omega arith)
@@ -82,21 +73,13 @@ module _ (p : ℕ → Bool) where
   unfolding first
   first-end n c h = let e : n - c ≡ 0 = omega arith in rw e
 
-  pub first-from : (r c : ℕ) → c ≤ first p r c
-  unfolding first
-  first-from zero c = omega arith
-  first-from (suc r) c = go (p c) (first-from r (c + 1))
-    where
-      go : (t : Bool) → c + 1 ≤ first p r (c + 1) → c ≤ cond t c (first p r (c + 1))
-      go true ih = omega arith
-      go false ih = omega arith
-
   pub first-passes : (r c : ℕ) → first p r c < c + r → p (first p r c) ≡ true
   unfolding first
   first-passes zero c h = absurd (omega arith)
   first-passes (suc r) c h = go (p c) refl (first-passes r (c + 1)) h
     where
-      go : (t : Bool) → p c ≡ t → (first p r (c + 1) < c + 1 + r → p (first p r (c + 1)) ≡ true) → cond t c (first p r (c + 1)) < c + suc r → p (cond t c (first p r (c + 1))) ≡ true
+      go : (t : Bool) → p c ≡ t → (first p r (c + 1) < c + 1 + r → p (first p r (c + 1)) ≡ true) → cond t c (first p r (c + 1)) < c + suc r
+          → p (cond t c (first p r (c + 1))) ≡ true
       go true e ih l = e
       go false e ih l = ih (omega arith)
 
@@ -105,7 +88,8 @@ module _ (p : ℕ → Bool) where
   first-before zero c k lo hi = absurd (omega arith)
   first-before (suc r) c k lo hi = go (p c) refl (first-before r (c + 1) k) hi (eq-or-lt-of-le lo)
     where
-      go : (t : Bool) → p c ≡ t → (c + 1 ≤ k → k < first p r (c + 1) → p k ≡ false) → k < cond t c (first p r (c + 1)) → (c ≡ k) ⊎ (c < k) → p k ≡ false
+      go : (t : Bool) → p c ≡ t → (c + 1 ≤ k → k < first p r (c + 1) → p k ≡ false) → k < cond t c (first p r (c + 1)) → (c ≡ k) ⊎ (c < k)
+          → p k ≡ false
       go true e ih l w = absurd (omega arith)
       go false e ih l (inl q) = rw (← q) e
       go false e ih l (inr m) = ih (omega arith) l
@@ -142,7 +126,8 @@ module _ (p : ℕ → Bool) where
   any-none zero k e m lo hi = absurd (omega arith)
   any-none (suc r) k e m lo hi = go (p k) refl (any-none r (k + 1)) e (eq-or-lt-of-le lo)
     where
-      go : (t : Bool) → p k ≡ t → (any p r (k + 1) ≡ false → (m : ℕ) → k + 1 ≤ m → m < k + 1 + r → p m ≡ false) → cond t true (any p r (k + 1)) ≡ false → (k ≡ m) ⊎ (k < m) → p m ≡ false
+      go : (t : Bool) → p k ≡ t → (any p r (k + 1) ≡ false → (m : ℕ) → k + 1 ≤ m → m < k + 1 + r → p m ≡ false)
+          → cond t true (any p r (k + 1)) ≡ false → (k ≡ m) ⊎ (k < m) → p m ≡ false
       go true q ih e w = absurd (false≢true (sym e))
       go false q ih e (inl w) = rw (← w) q
       go false q ih e (inr w) = ih e m (omega arith) (omega arith)
@@ -155,7 +140,8 @@ module _ (p : ℕ → Bool) where
       more : (m : ℕ) × (k + 1 ≤ m) × (m < k + 1 + r) × (p m ≡ true) → (m : ℕ) × (k ≤ m) × (m < k + suc r) × (p m ≡ true)
       more (m, lo, hi, q) = (m, omega arith, omega arith, q)
 
-      go : (t : Bool) → p k ≡ t → (any p r (k + 1) ≡ true → (m : ℕ) × (k + 1 ≤ m) × (m < k + 1 + r) × (p m ≡ true)) → cond t true (any p r (k + 1)) ≡ true → (m : ℕ) × (k ≤ m) × (m < k + suc r) × (p m ≡ true)
+      go : (t : Bool) → p k ≡ t → (any p r (k + 1) ≡ true → (m : ℕ) × (k + 1 ≤ m) × (m < k + 1 + r) × (p m ≡ true))
+          → cond t true (any p r (k + 1)) ≡ true → (m : ℕ) × (k ≤ m) × (m < k + suc r) × (p m ≡ true)
       go true q ih e = (k, omega arith, omega arith, q)
       go false q ih e = more (ih e)
 

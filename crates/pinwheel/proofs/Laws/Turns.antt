@@ -1,7 +1,7 @@
 -- The laws by which the inner functions of the dealing go on from one turn to the next.
 use Prim.Native.Nat.{ℕ, zero, suc, _+_, _-_, _≤_, _<_, min}
 use mathlib.Core.Path.{_≡_, refl, sym, _∙_, ap}
-use mathlib.Core.Bool.{Bool, true, false, not, false≢true}
+use mathlib.Core.Bool.{true, not, false≢true}
 use mathlib.Core.List.{List, []}
 use mathlib.Core.Logic.{_⊎_, inl, inr}
 use lib.ListN.{length, getD, set, length-set}
@@ -10,7 +10,7 @@ use borrow.Author.Tests.{eq-eqb, ne-eqb, not-false}
 use native.Mathlib.Nat.{eq-or-lt-of-le, mod-eq-of-lt}
 use borrow.Author.Count.{below-more}
 use native.Mathlib.Omega.{arith}
-use Rattle.pinwheel.specs.Search.{first, firstIn, largest}
+use Rattle.pinwheel.specs.Search.{firstIn, largest}
 use Rattle.pinwheel.specs.Rule.{sends, earlier, taken, freeOffset, turn, level, levels, offsetsFor}
 use Rattle.pinwheel.specs.Inner.{Roomy, Passed, Level, Next}
 use Rattle.pinwheel.proofs.Laws.Search.{lt-or-le, first-passes, first-before, first-skip}
@@ -33,7 +33,8 @@ module _ (ps : List ℕ) (p : ℕ) where
   pub next-skip : (i next : ℕ) → getD ps i 0 ≤ p → Next ps i p next → Next ps (i + 1) p next
   next-skip i next h w = next-at i next (w .least) (λ l. absurd (omega arith)) (λ z. wider i next (w .one z))
 
-  pub next-take : (i next r : ℕ) → p < getD ps i 0 → Next ps i p next → (next ≡ 0 → r ≡ getD ps i 0) × (0 < next → r ≡ min next (getD ps i 0)) → Next ps (i + 1) p r
+  pub next-take : (i next r : ℕ) → p < getD ps i 0 → Next ps i p next → (next ≡ 0 → r ≡ getD ps i 0) × (0 < next → r ≡ min next (getD ps i 0))
+      → Next ps (i + 1) p r
   next-take i next r h w (none, some) = go (lt-or-le 0 next) (lt-or-le (getD ps i 0) next)
     where
       here : r ≡ getD ps i 0 → ((k : ℕ) → k < i → p < getD ps k 0 → getD ps i 0 ≤ getD ps k 0) → Next ps (i + 1) p r
@@ -50,7 +51,8 @@ pub roomy-positive : (ps : List ℕ) → Roomy ps → (k : ℕ) → k < length p
 roomy-positive ps r k l = omega (arith, r .room [] k l)
 
 -- What is taken stays taken, as long as those before stay before.
-passed-on : (ps os : List ℕ) (p i q j from : ℕ) → ((k : ℕ) → earlier ps p i k ≡ true → earlier ps q j k ≡ true) → Passed ps os p i from → Passed ps os q j from
+passed-on : (ps os : List ℕ) (p i q j from : ℕ) → ((k : ℕ) → earlier ps p i k ≡ true → earlier ps q j k ≡ true) → Passed ps os p i from
+    → Passed ps os q j from
 passed-on ps os p i q j from keep w = record { passed = λ o l. go o (taken-why ps os p i o (w .passed o l)) }
   where
     go : (o : ℕ) → (k : ℕ) × (k < length ps) × (earlier ps p i k ≡ true) × (sends (getD ps k 0) (getD os k 0) o ≡ true) → taken ps os q j o ≡ true
@@ -63,11 +65,13 @@ unfolding freeOffset
 search-free ps os i from r roomy l w e =
     let room = roomy .room os i l in
     let free = first-passes (λ o. not (taken ps os (getD ps i 0) i o)) (getD ps i 0) 0 (omega arith) in
-    let q = first-skip (λ o. not (taken ps os (getD ps i 0) i o)) (getD ps i 0) from (at free (lt-or-le (freeOffset ps os (getD ps i 0) i) from) room) (λ o m. ap not (w .passed o m)) in
+    let within = at free (lt-or-le (freeOffset ps os (getD ps i 0) i) from) room in
+    let q = first-skip (λ o. not (taken ps os (getD ps i 0) i o)) (getD ps i 0) from within (λ o m. ap not (w .passed o m)) in
     (e ∙ sym q, rw (e ∙ sym q) room)
   where
     at : not (taken ps os (getD ps i 0) i (freeOffset ps os (getD ps i 0) i)) ≡ true
-        → (freeOffset ps os (getD ps i 0) i < from) ⊎ (from ≤ freeOffset ps os (getD ps i 0) i) → freeOffset ps os (getD ps i 0) i < getD ps i 0 → from ≤ getD ps i 0
+        → (freeOffset ps os (getD ps i 0) i < from) ⊎ (from ≤ freeOffset ps os (getD ps i 0) i)
+        → freeOffset ps os (getD ps i 0) i < getD ps i 0 → from ≤ getD ps i 0
     at free (inl m) room = absurd (false≢true (sym (ap not (w .passed _ m)) ∙ free))
     at free (inr m) room = omega arith
 
@@ -89,7 +93,9 @@ passed-set ps os i r l long e room = record { passed = λ o m. at o (eq-or-lt-of
         let own = getD-set-same os i r 0 (omega (arith, long)) in
         taken-by ps (set os i r) (getD ps i 0) (i + 1) o i l (earlier-same ps (getD ps i 0) (i + 1) i refl (omega arith))
         (rw (own, z, mod-eq-of-lt room) (eq-eqb r r refl))
-    at o (inr m) = under o (taken-why ps os (getD ps i 0) i o (not-false _ (first-before (λ m. not (taken ps os (getD ps i 0) i m)) (getD ps i 0) 0 o (omega arith) (omega arith))))
+    at o (inr m) =
+        let passed = first-before (λ m. not (taken ps os (getD ps i 0) i m)) (getD ps i 0) 0 o (omega arith) (omega arith) in
+        under o (taken-why ps os (getD ps i 0) i o (not-false _ passed))
 
 -- One turn of the children of a period.
 level-step : (ps : List ℕ) (p i : ℕ) (os after : List ℕ) → i < length ps → turn ps p i os ≡ after
@@ -112,7 +118,8 @@ module _ (ps before : List ℕ) (p : ℕ) where
   pub dealing-start : (from : ℕ) → length before ≡ length ps → Passed ps before p 0 from → Dealing ps before p 0 from before
   dealing-start from e w = record { most = omega arith; long = e; rest = let q : length ps - 0 ≡ length ps = omega arith in rw q; below = w }
 
-  pub dealing-pass : (i next : ℕ) (os : List ℕ) → Dealing ps before p i next os → i < length ps → (getD ps i 0 ≡ p → ⊥) → Dealing ps before p (i + 1) next os
+  pub dealing-pass : (i next : ℕ) (os : List ℕ) → Dealing ps before p i next os → i < length ps → (getD ps i 0 ≡ p → ⊥)
+      → Dealing ps before p (i + 1) next os
   dealing-pass i next os d l n = record {
     most = omega arith;
     long = d .long;
@@ -144,7 +151,8 @@ module _ (ps before : List ℕ) (p : ℕ) where
       record { turns = sym (d .rest ∙ (let q : length ps - i ≡ 0 = omega arith in rw q)); below = rw (← e) (d .below) }
 
 -- Periods that no child has take no turn.
-level-none : (ps : List ℕ) (p r i : ℕ) (os : List ℕ) → i + r ≤ length ps → ((k : ℕ) → k < length ps → getD ps k 0 ≡ p → ⊥) → level ps p r i os ≡ os
+level-none : (ps : List ℕ) (p r i : ℕ) (os : List ℕ) → i + r ≤ length ps → ((k : ℕ) → k < length ps → getD ps k 0 ≡ p → ⊥)
+    → level ps p r i os ≡ os
 unfolding level
 level-none ps p zero i os h none = refl
 level-none ps p (suc r) i os h none = rw (turn-other ps p i os (none i (omega arith))) (level-none ps p r (i + 1) os (omega arith) none)
@@ -168,7 +176,8 @@ pub record Upto (ps before : List ℕ) (p from : ℕ) (os : List ℕ) : Type 0 w
 
 module _ (ps before : List ℕ) where
   pub upto-start : length before ≡ length ps → Upto ps before 0 0 before
-  upto-start e = record { long = e; rest = let q : largest ps - 0 ≡ largest ps = omega arith in rw q; below = record { passed = λ o l. absurd (omega arith) } }
+  upto-start e =
+      record { long = e; rest = let q : largest ps - 0 ≡ largest ps = omega arith in rw q; below = record { passed = λ o l. absurd (omega arith) } }
 
   -- The next period is one of the children's.
   next-met : (p q : ℕ) → Next ps (length ps) p q → 0 < q → (p < q) × (q ≤ largest ps)
@@ -182,7 +191,8 @@ module _ (ps before : List ℕ) where
       let m = next-met p q n h in
       passed-on ps os p (length ps) q 0 from (λ k e. earlier-below ps q 0 k (omega (arith, earlier-le ps p (length ps) k e))) (u .below)
 
-  pub upto-next : (p q from r : ℕ) (os after : List ℕ) → Upto ps before p from os → Next ps (length ps) p q → 0 < q → Level ps q os after r → length after ≡ length ps
+  pub upto-next : (p q from r : ℕ) (os after : List ℕ) → Upto ps before p from os → Next ps (length ps) p q → 0 < q → Level ps q os after r
+      → length after ≡ length ps
       → Upto ps before q r after
   unfolding levels
   upto-next p q from r os after u n h l long =
@@ -192,7 +202,8 @@ module _ (ps before : List ℕ) where
       let skip = levels-skip ps (q - (p + 1)) (suc (largest ps - q)) (p + 1) os (λ k j z. let w = n .least k j (omega arith) in omega arith) in
       record { long = long; rest = u .rest ∙ rw a (skip ∙ rw (b, l .turns)); below = l .below }
 
-  pub upto-end : (p q from : ℕ) (os : List ℕ) → Roomy ps → Upto ps before p from os → length before ≡ length ps → Next ps (length ps) p q → q ≡ 0 → os ≡ offsetsFor ps
+  pub upto-end : (p q from : ℕ) (os : List ℕ) → Roomy ps → Upto ps before p from os → length before ≡ length ps → Next ps (length ps) p q → q ≡ 0
+      → os ≡ offsetsFor ps
   unfolding levels
   upto-end p q from os roomy u long n z =
       let a : largest ps - p ≡ (largest ps - p) + 0 = omega arith in

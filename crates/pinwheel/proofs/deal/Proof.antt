@@ -7,30 +7,33 @@ use native.Mathlib.Omega.{arith}
 use Rattle.pinwheel.specs.Rule.{base, periodsOf, offsetsFor, offsetsOf}
 use Rattle.pinwheel.proofs.Laws.Bases.{smallest-within, base-fits}
 use Rattle.pinwheel.proofs.Laws.Room.{periods-long, base-roomy}
-use Rattle.pinwheel.proofs.Laws.Checks.{Good, gap-limits, refuse-offsets, refuse-periods, refuse-none, refuse-many, refuse-gap, refuse-crowded, accept}
+use Rattle.pinwheel.proofs.Laws.Checks.{Good, gap-limits, refuse-offsets, refuse-periods, refuse-none, refuse-many, refuse-gap}
+use Rattle.pinwheel.proofs.Laws.Checks.{refuse-crowded, accept}
 use Rattle.pinwheel.proofs.deal.Statement.{statement}
 use Rattle.pinwheel.proofs.deal.Tie as tie
 
+abbrev start : tie.Else5 → tie.Start
+start c = c .before .before .before .before .before .before .before .before .before
+
 -- Past the checks of form the lists are as 1 and 5 ask.
-good : (c : tie.Else5) → Good (c .before .before .before .before .before .before .before .before .before .args .gaps .now)
-    (c .before .before .before .before .before .before .before .before .before .args .offsets .now)
-    (c .before .before .before .before .before .before .before .before .before .args .periods .now)
-good c = record {
-  offsets-long = c .before .before .before .before .before .if1 .left;
-  periods-long = c .before .before .before .before .if2 .left;
-  some = omega arith;
-  few = c .before .before .if4 .left;
-  limits = λ i l. gap-limits (c .before .before .before .before .before .before .before .before .before .args .gaps .now) i (omega (arith, c .before .first-bad .ensures));
-}
+good : (c : tie.Else5) → Good (start c .args .gaps .now) (start c .args .offsets .now) (start c .args .periods .now)
+good c =
+    record {
+      offsets-long = c .before .before .before .before .before .if1 .left;
+      periods-long = c .before .before .before .before .if2 .left;
+      some = omega arith;
+      few = c .before .before .if4 .left;
+      limits = λ i l. gap-limits (start c .args .gaps .now) i (omega (arith, c .before .first-bad .ensures));
+    }
 
 two : 2 ≤ 2
 two = omega arith
 
-fit : (c : tie.Else6) → 1 ≤ base 2 (c .before .before .before .before .before .before .before .before .before .before .before .args .gaps .now)
+fit : (c : tie.Else6) → 1 ≤ base 2 (start (c .before .before) .args .gaps .now)
 fit c = omega (arith, c .before .largest-fitting .ensures)
 
 -- The first list written holds the periods under that base.
-made : (c : tie.After-fill) → c .fill .last .1 .1 .1 .0 ≡ periodsOf 2 (c .before .before .before .before .before .before .before .before .before .before .before .before .before .args .gaps .now)
+made : (c : tie.After-fill) → c .fill .last .1 .1 .1 .0 ≡ periodsOf 2 (start (c .before .before .before .before) .args .gaps .now)
 unfolding periodsOf
 made c = c .fill .ensures ∙ rw (c .before .before .before .largest-fitting .ensures)
 
@@ -50,7 +53,10 @@ first-bad-requires : tie.Need-first-bad-requires
 first-bad-requires c κs = search needs
 
 returns-5 : tie.Need-returns-5
-returns-5 c = refuse-gap _ _ _ _ (c .before .before .before .before .before .if1 .left) (c .before .before .before .before .if2 .left) (c .before .before .before .if3 .left) (c .before .before .if4 .left) _ (c .before .first-bad .ensures) (c .if5 .taken)
+returns-5 c =
+    let judged = c .before .before in
+    refuse-gap _ _ _ _ (judged .before .before .before .if1 .left) (judged .before .before .if2 .left) (judged .before .if3 .left)
+    (judged .if4 .left) _ (c .before .first-bad .ensures) (c .if5 .taken)
 
 largest-fitting-requires : tie.Need-largest-fitting-requires
 largest-fitting-requires c κs = (two, good c .some, good c .few)
@@ -59,10 +65,21 @@ returns-6 : tie.Need-returns-6
 returns-6 c = refuse-crowded _ _ _ _ (good (c .before .before)) (sym (c .before .largest-fitting .ensures) ∙ c .if6 .taken)
 
 fill-requires : tie.Need-fill-requires
-fill-requires c κs = (record { two = two; one = omega arith; within = λ i l. omega (arith, base-fits 2 two (c .before .before .before .before .before .before .before .before .before .before .before .before .args .gaps .now) (fit (c .before)) .0, smallest-within (c .before .before .before .before .before .before .before .before .before .before .before .before .args .gaps .now) i l, c .before .before .largest-fitting .ensures) }, good (c .before .before .before) .periods-long)
+fill-requires c κs =
+    let passed = c .before .before .before in
+    let low = base-fits 2 two (start passed .args .gaps .now) (fit (c .before)) .0 in
+    let is = c .before .before .largest-fitting .ensures in (
+      record { two = two; one = omega arith; within = λ i l. omega (arith, smallest-within (start passed .args .gaps .now) i l) },
+      good passed .periods-long,
+    )
 
 fill-requires-2 : tie.Need-fill-requires-2
-fill-requires-2 c κs = (good (c .before .before .before .before .before .before .before .before) .offsets-long ∙ sym (rw (made (c .before .before .before .before)) (periods-long 2 two (c .before .before .before .before .before .before .before .before .before .before .before .before .before .before .before .before .before .args .gaps .now) (fit (c .before .before .before .before .before .before)))), rw (made (c .before .before .before .before)) (base-roomy 2 two _ (fit (c .before .before .before .before .before .before))))
+fill-requires-2 c κs =
+    let passed = c .before .before .before .before .before .before .before .before in
+    let some = fit (c .before .before .before .before .before .before) in
+    let periods = made (c .before .before .before .before) in
+    let long = periods-long 2 two (start passed .args .gaps .now) some in
+    (good passed .offsets-long ∙ sym (rw periods long), rw periods (base-roomy 2 two (start passed .args .gaps .now) some))
 
 same-length : tie.Need-same-length
 same-length c = search needs
@@ -72,7 +89,12 @@ same-length-2 c = search needs
 
 returns-7 : tie.Need-returns-7
 unfolding offsetsOf
-returns-7 c = accept 2 _ _ _ (good (c .before .before .before .before .before .before .before .before .before .before .before)) (fit (c .before .before .before .before .before .before .before .before .before)) _ _ _ (c .before .before .before .before .before .before .before .before .before .before .largest-fitting .ensures) (c .before .before .fill2 .ensures ∙ ap offsetsFor (made (c .before .before .before .before .before .before .before))) (made (c .before .before .before .before .before .before .before))
+returns-7 c =
+    let written = c .before .before .before .before .before .before .before in
+    let found = written .before .before .before in
+    let periods = made written in
+    let offsets = c .before .before .fill2 .ensures ∙ ap offsetsFor periods in
+    accept 2 _ _ _ (good (found .before)) (fit (written .before .before)) _ _ _ (found .largest-fitting .ensures) offsets periods
 
 pub deal-spec : {M : Type 1} → statement M
 deal-spec =

@@ -36,7 +36,10 @@ shared-slice-read-if2 c = search needs
 
 returns : tie.Need-returns Inv-loop μ-loop
 unfolding badGap
-returns c = sym (c .before .before .before .loop .inv .1 ∙ first-hit _ _ _ (c .before .before .loop-test .taken) (⊎-elim (λ w. simp (eq-eqb _ _ (w .taken))) (λ w. simp (ne-eqb _ _ (w .0 .left), w .2 .taken)) (c .if1 .came)))
+returns c =
+    sym (c .before .before .before .loop .inv .1
+    ∙ first-hit _ _ _ (c .before .before .loop-test .taken)
+    (⊎-elim (λ w. simp (eq-eqb _ _ (w .taken))) (λ w. simp (ne-eqb _ _ (w .0 .left), w .2 .taken)) (c .if1 .came)))
 
 add-i : tie.Need-add-i Inv-loop μ-loop
 add-i c = search needs
@@ -46,7 +49,9 @@ loop-less c = search needs
 
 loop-again : tie.Need-loop-again Inv-loop μ-loop
 unfolding badGap
-loop-again c = (search needs, c .before .before .before .before .before .loop .inv .1 ∙ first-miss _ _ _ (search needs) (simp (ne-eqb _ _ (c .before .before .if1 .left), c .if2 .left)))
+loop-again c =
+    let on = c .before .before .before .before .loop-test .taken in
+    (search needs, c .before .before .before .before .before .loop .inv .1 ∙ first-miss _ _ _ on (simp (ne-eqb _ _ (c .before .before .if1 .left), c .if2 .left)))
 
 returns-2 : tie.Need-returns-2 Inv-loop μ-loop
 returns-2 c = sym (c .before .loop .inv .1 ∙ first-end _ _ _ (c .loop-test .left))

@@ -7,7 +7,8 @@ use Rattle.worst.proofs.deal_often.Statement.{statement}
 use Rattle.worst.proofs.deal_often.Tie as tie
 
 abbrev Inv-loop : tie.InvT-loop
-Inv-loop gaps offsets₀ periods₀ sum₀ round₀ offsets periods sum round = (round ≤ 2000) × (sum ≤ 65536 * round) × (length offsets ≡ length offsets₀) × (length periods ≡ length periods₀)
+Inv-loop gaps offsets₀ periods₀ sum₀ round₀ offsets periods sum round =
+    (round ≤ 2000) × (sum ≤ 65536 * round) × (length offsets ≡ length offsets₀) × (length periods ≡ length periods₀)
 
 abbrev μ-loop : tie.MeasureT-loop
 μ-loop gaps offsets₀ periods₀ sum₀ round₀ offsets periods sum round = 2000 - round

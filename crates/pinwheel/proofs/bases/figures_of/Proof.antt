@@ -18,16 +18,25 @@ Inv-loop gaps most base factor top total₀ i₀ total i = Summed (λ g. top / p
 abbrev μ-loop : tie.MeasureT-loop
 μ-loop gaps most base factor top total₀ i₀ total i = length gaps - i
 
--- What the quotients are taken of.
-top : (c : tie.After-period-of Inv-loop μ-loop) → c .period-of .result ≡ period (c .before .before .args .factor) (c .before .before .args .base) (largest (c .before .before .args .gaps .now))
+-- What the shares are taken of.
+top : (c : tie.After-period-of Inv-loop μ-loop)
+    → c .period-of .result ≡ period (c .before .before .args .factor) (c .before .before .args .base) (largest (c .before .before .args .gaps .now))
 top c = c .period-of .ensures ∙ ap (period (c .before .before .args .factor) (c .before .before .args .base)) (c .before .before .pre .1)
 
--- A share is at most what it is taken of.
+-- A share is at most that.
 few : (c : tie.After-share Inv-loop μ-loop) → c .share .result ≤ 65535
-few c = omega (arith, c .share .ensures, div-le-self (c .before .before .before .before .period-of .result) (period (c .before .before .before .before .before .before .args .factor) (c .before .before .before .before .before .before .args .base) (getD (c .before .before .before .before .before .before .args .gaps .now) (c .before .before .before .loop .i) 0)))
+few c =
+    let start = c .before .before .before .before .before .before .args in
+    let gap = getD (start .gaps .now) (c .before .before .before .loop .i) 0 in
+    omega (arith, c .share .ensures, div-le-self (c .before .before .before .before .period-of .result) (period (start .factor) (start .base) gap))
 
 period-of-requires : tie.Need-period-of-requires Inv-loop μ-loop
-period-of-requires c κs = (c .before .pre .0 .two, c .before .pre .0 .one, omega (arith, c .before .pre .0 .within 0 (c .before .pre .2), largest-above (c .before .args .gaps .now) 0 (c .before .pre .2), c .before .pre .1))
+period-of-requires c κs =
+    let allowed = c .before .pre .0 in
+    let some = c .before .pre .2 in
+    let low = allowed .within 0 some in
+    let high = largest-above (c .before .args .gaps .now) 0 some in
+    (allowed .two, allowed .one, omega (arith, c .before .pre .1))
 
 cast-top : tie.Need-cast-top Inv-loop μ-loop
 cast-top c = search needs
@@ -42,7 +51,9 @@ shared-slice-read-share : tie.Need-shared-slice-read-share Inv-loop μ-loop
 shared-slice-read-share c = search needs
 
 share-requires : tie.Need-share-requires Inv-loop μ-loop
-share-requires c κs = (c .before .before .before .before .before .pre .0 .two, c .before .before .before .before .before .pre .0 .one, c .before .before .before .before .before .pre .0 .within _ (c .before .loop-test .taken))
+share-requires c κs =
+    let allowed = c .before .before .before .before .before .pre .0 in
+    (allowed .two, allowed .one, allowed .within _ (c .before .loop-test .taken))
 
 add-total : tie.Need-add-total Inv-loop μ-loop
 add-total c = omega (arith, few c)
@@ -54,10 +65,15 @@ loop-less : tie.Need-loop-less Inv-loop μ-loop
 loop-less c = search needs
 
 loop-again : tie.Need-loop-again Inv-loop μ-loop
-loop-again c = summed-more _ _ _ _ _ _ (c .before .before .before .loop .inv) (c .before .before .loop-test .taken) (c .share .ensures) (few c)
+loop-again c =
+    summed-more _ _ _ _ _ _ (c .before .before .before .loop .inv) (c .before .before .loop-test .taken) (c .share .ensures) (few c)
 
 returns : tie.Need-returns Inv-loop μ-loop
-returns c = (sum-quotients _ (c .before .before .before .before .pre .0 .two) _ _ _ _ (c .before .before .before .before .pre .0 .one) (top (c .before .before)) (summed-end _ _ _ _ _ (c .before .loop .inv) (c .loop-test .left)), top (c .before .before) ∙ sym (limit-largest _ (c .before .before .before .before .pre .0 .two) _ _ (c .before .before .before .before .pre .0 .one)))
+returns c =
+    let allowed = c .before .before .before .before .pre .0 in
+    let limit = top (c .before .before) in
+    let sum = summed-end _ _ _ _ _ (c .before .loop .inv) (c .loop-test .left) in
+    (sum-quotients _ (allowed .two) _ _ _ _ (allowed .one) limit sum, limit ∙ sym (limit-largest _ (allowed .two) _ _ (allowed .one)))
 
 pub figures-of-spec : {M : Type 1} → statement M
 figures-of-spec =

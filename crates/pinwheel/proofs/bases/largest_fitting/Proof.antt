@@ -24,10 +24,20 @@ loop-holds : tie.Need-loop-holds Inv-loop μ-loop
 loop-holds c = tried-start _ (c .before .before .before .pre .0) _ _ (c .smallest-of .ensures)
 
 figures-of-requires : tie.Need-figures-of-requires Inv-loop μ-loop
-figures-of-requires c κs = (record { two = c .before .before .before .before .before .pre .0; one = omega arith; within = λ i l. omega (arith, c .before .loop .inv .within, smallest-within (c .before .before .before .before .before .args .gaps .now) i l) }, c .before .before .before .largest-of .ensures, c .before .before .before .before .before .pre .1, c .before .before .before .before .before .pre .2)
+figures-of-requires c κs =
+    let start = c .before .before .before .before .before in
+    let most = c .before .loop .inv .within in (
+      record { two = start .pre .0; one = omega arith; within = λ i l. omega (arith, smallest-within (start .args .gaps .now) i l) },
+      c .before .before .before .largest-of .ensures,
+      start .pre .1,
+      start .pre .2,
+    )
 
 returns : tie.Need-returns Inv-loop μ-loop
-returns c = tried-hit _ (c .before .before .before .before .before .before .before .before .pre .0) _ _ (c .before .before .before .before .loop .inv) (fits-yes _ (c .before .before .before .before .before .before .before .before .pre .0) _ _ _ _ (c .before .before .figures-of .ensures .0) (c .before .before .figures-of .ensures .1) (c .if1 .taken))
+returns c =
+    let two = c .before .before .before .before .before .before .before .before .pre .0 in
+    let figures = c .before .before .figures-of .ensures in
+    tried-hit _ two _ _ (c .before .before .before .before .loop .inv) (fits-yes _ two _ _ _ _ (figures .0) (figures .1) (c .if1 .taken))
 
 sub-b : tie.Need-sub-b Inv-loop μ-loop
 sub-b c = search needs
@@ -36,10 +46,14 @@ loop-less : tie.Need-loop-less Inv-loop μ-loop
 loop-less c = search needs
 
 loop-again : tie.Need-loop-again Inv-loop μ-loop
-loop-again c = tried-less _ (c .before .before .before .before .before .before .before .before .pre .0) _ _ (c .before .before .before .before .loop .inv) (fits-no _ (c .before .before .before .before .before .before .before .before .pre .0) _ _ _ _ (c .before .before .figures-of .ensures .0) (c .before .before .figures-of .ensures .1) (c .if1 .left))
+loop-again c =
+    let two = c .before .before .before .before .before .before .before .before .pre .0 in
+    let figures = c .before .before .figures-of .ensures in
+    tried-less _ two _ _ (c .before .before .before .before .loop .inv) (fits-no _ two _ _ _ _ (figures .0) (figures .1) (c .if1 .left))
 
 returns-2 : tie.Need-returns-2 Inv-loop μ-loop
-returns-2 c = tried-end _ (c .before .before .before .before .before .pre .0) _ _ _ (c .before .loop .inv) (c .before .before .smallest-of .ensures) (c .loop-test .left)
+returns-2 c =
+    tried-end _ (c .before .before .before .before .before .pre .0) _ _ _ (c .before .loop .inv) (c .before .before .smallest-of .ensures) (c .loop-test .left)
 
 pub largest-fitting-spec : {M : Type 1} → statement M
 largest-fitting-spec =

@@ -14,7 +14,9 @@ cast-p : tie.Need-cast-p
 cast-p c = search needs
 
 div-result : tie.Need-div-result
-div-result c = omega (arith, c .period-of .ensures, period-least (c .before .args .factor) (c .before .pre .0) (c .before .args .base) (c .before .args .gap))
+div-result c =
+    let start = c .before in
+    omega (arith, c .period-of .ensures, period-least (start .args .factor) (start .pre .0) (start .args .base) (start .args .gap))
 
 returns : tie.Need-returns
 returns c = ap (λ (p : ℕ). c .before .args .top / p) (c .period-of .ensures)

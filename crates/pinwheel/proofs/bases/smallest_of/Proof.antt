@@ -41,7 +41,11 @@ loop-less : tie.Need-loop-less Inv-loop μ-loop
 loop-less c = search needs
 
 loop-again : tie.Need-loop-again Inv-loop μ-loop
-loop-again c = (search needs, (let m : c .if1 .low ≡ min (c .before .before .before .loop .low) (getD (c .before .before .before .before .before .args .gaps .now) (c .before .before .before .loop .i) 0) = ⊎-elim (λ w. omega arith) (λ w. omega arith) (c .if1 .came) in rw m (least-more _ _ _ (c .before .before .loop-test .taken) ∙ c .before .before .before .loop .inv .1)))
+loop-again c =
+    let loop = c .before .before .before .loop in
+    let gap = getD (c .before .before .before .before .before .args .gaps .now) (loop .i) 0 in
+    let kept : c .if1 .low ≡ min (loop .low) gap = ⊎-elim (λ w. omega arith) (λ w. omega arith) (c .if1 .came) in
+    (search needs, rw kept (least-more _ _ _ (c .before .before .loop-test .taken) ∙ loop .inv .1))
 
 returns : tie.Need-returns Inv-loop μ-loop
 unfolding least

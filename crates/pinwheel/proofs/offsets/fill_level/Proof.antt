@@ -1,23 +1,13 @@
--- `offsets::fill_level` deals each child of the period in turn: what is left of the loop gives the rest of the turns, and every offset below `next` is taken.
+-- `offsets::fill_level` deals each child of the period in turn: what is left of the loop gives the rest of the turns,
+-- and every offset below `next` is taken.
 use borrow.Author.Needs.{needs}
 use Prim.Native.Nat.{_-_}
-use mathlib.Core.Path.{sym}
-use mathlib.Core.Logic.{⊎-elim}
-use lib.ListN.{length}
-use native.Mathlib.Omega.{arith}
-use Rattle.pinwheel.proofs.Laws.Turns.{Dealing, dealing-start, dealing-pass, dealing-turn, dealing-found, dealing-end, roomy-positive}
-use borrow.Author.Needs.{needs}
-use Prim.Native.Nat.{_-_}
-use mathlib.Core.Path.{sym}
 use mathlib.Core.Logic.{⊎-elim}
 use lib.ListN.{length}
 use native.Mathlib.Omega.{arith}
 use Rattle.pinwheel.proofs.Laws.Turns.{Dealing, dealing-start, dealing-pass, dealing-turn, dealing-found, dealing-end, roomy-positive}
 use Rattle.pinwheel.proofs.offsets.fill_level.Statement.{statement}
 use Rattle.pinwheel.proofs.offsets.fill_level.Tie as tie
-use Rattle.pinwheel.proofs.offsets.fill_level.Reads as reads
-use Rattle.pinwheel.proofs.offsets.fill_level.Lts as lts
-use Rattle.pinwheel.proofs.offsets.free_offset.Reads as free-offset-reads
 
 abbrev Inv-loop : tie.InvT-loop
 Inv-loop periods p offsets₀ from next₀ i₀ offsets next i = Dealing periods offsets₀ p i next offsets
@@ -35,7 +25,8 @@ shared-slice-read-if1 : tie.Need-shared-slice-read-if1 Inv-loop μ-loop
 shared-slice-read-if1 c = search needs
 
 free-offset-requires : tie.Need-free-offset-requires Inv-loop μ-loop
-free-offset-requires c κs = (c .before .before .before .before .loop .inv .long, roomy-positive _ (c .before .before .before .before .before .before .before .pre .1))
+free-offset-requires c κs =
+    (c .before .before .before .before .loop .inv .long, roomy-positive _ (c .before .before .before .before .before .before .before .pre .1))
 
 mul-offsets : tie.Need-mul-offsets Inv-loop μ-loop
 mul-offsets c = search needs
@@ -44,7 +35,11 @@ slice-write-offsets : tie.Need-slice-write-offsets Inv-loop μ-loop
 slice-write-offsets c = search needs
 
 add-next : tie.Need-add-next Inv-loop μ-loop
-add-next c = let h = dealing-found _ _ _ _ _ _ _ (c .before .before .before .before .before .loop .inv) (c .before .before .before .before .before .before .before .before .pre .1) (c .before .before .before .before .loop-test .taken) (c .before .before .if1 .taken) (c .free-offset .ensures) in omega arith
+add-next c =
+    let turn = c .before .before .before .before in
+    let roomy = turn .before .before .before .before .pre .1 in
+    let found = dealing-found _ _ _ _ _ _ _ (turn .before .loop .inv) roomy (turn .loop-test .taken) (c .before .before .if1 .taken) (c .free-offset .ensures) in
+    omega arith
 
 add-i : tie.Need-add-i Inv-loop μ-loop
 add-i c = search needs
@@ -53,7 +48,14 @@ loop-less : tie.Need-loop-less Inv-loop μ-loop
 loop-less c = search needs
 
 loop-again : tie.Need-loop-again Inv-loop μ-loop
-loop-again c = ⊎-elim (λ w. rw (w .3, w .4) (dealing-turn _ _ _ _ _ _ _ (c .before .before .before .loop .inv) (c .before .before .before .before .before .before .pre .1) (c .before .before .loop-test .taken) (w .0 .taken) (w .2 .ensures))) (λ w. rw (w .1, w .2) (dealing-pass _ _ _ _ _ _ (c .before .before .before .loop .inv) (c .before .before .loop-test .taken) (w .0 .left))) (c .if1 .came)
+loop-again c =
+    let sofar = c .before .before .before .loop .inv in
+    let roomy = c .before .before .before .before .before .before .pre .1 in
+    let turn = c .before .before .loop-test .taken in
+    ⊎-elim
+    (λ w. rw (w .3, w .4) (dealing-turn _ _ _ _ _ _ _ sofar roomy turn (w .0 .taken) (w .2 .ensures)))
+    (λ w. rw (w .1, w .2) (dealing-pass _ _ _ _ _ _ sofar turn (w .0 .left)))
+    (c .if1 .came)
 
 same-length : tie.Need-same-length Inv-loop μ-loop
 same-length c = search needs

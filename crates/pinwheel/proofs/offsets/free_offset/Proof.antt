@@ -34,7 +34,8 @@ abbrev μ-earlier : tie.MeasureT-earlier
 μ-earlier periods offsets p i from n candidate₀ k₀ candidate k = n - k
 
 abbrev Inv-search : tie.InvT-search
-Inv-search periods offsets p i from n candidate₀ candidate = firstIn (free periods offsets p i) p from ≡ firstIn (free periods offsets p i) p candidate
+Inv-search periods offsets p i from n candidate₀ candidate =
+    firstIn (free periods offsets p i) p from ≡ firstIn (free periods offsets p i) p candidate
 
 abbrev μ-search : tie.MeasureT-search
 μ-search periods offsets p i from n candidate₀ candidate = p - candidate
@@ -44,7 +45,10 @@ search-holds c = search needs
 
 earlier-holds : tie.Need-earlier-holds Inv-earlier μ-earlier Inv-search μ-search
 unfolding taken
-earlier-holds c = record { same = refl; below = c .if1 .left; answer = c .before .search .inv; upto = omega arith; none = let e : length (c .before .before .before .before .args .periods .now) - 0 ≡ length (c .before .before .before .before .args .periods .now) = omega arith in rw e }
+earlier-holds c =
+    let n = length (c .before .before .before .before .args .periods .now) in
+    let all : n - 0 ≡ n = omega arith in
+    record { same = refl; below = c .if1 .left; answer = c .before .search .inv; upto = omega arith; none = rw all }
 
 mul-blocks : tie.Need-mul-blocks Inv-earlier μ-earlier Inv-search μ-search
 mul-blocks c = search needs
@@ -61,7 +65,8 @@ shared-slice-read-blocks-2 :
 shared-slice-read-blocks-2 c = search needs
 
 blocks-requires : tie.Need-blocks-requires Inv-earlier μ-earlier Inv-search μ-search
-blocks-requires c κs = c .before .before .before .before .before .before .before .before .pre .1 _ (c .before .before .earlier-test .taken)
+blocks-requires c κs =
+    c .before .before .before .before .before .before .before .before .pre .1 _ (c .before .before .earlier-test .taken)
 
 add-candidate : tie.Need-add-candidate Inv-earlier μ-earlier Inv-search μ-search
 add-candidate c = search needs
@@ -71,7 +76,10 @@ search-less c = search needs
 
 search-again : tie.Need-search-again Inv-earlier μ-earlier Inv-search μ-search
 unfolding earlier
-search-again c = let v = c .before .before .before .before .before .earlier .inv in v .answer ∙ first-miss _ _ _ (v .below) (ap not (v .none ∙ any-hit _ _ _ (c .before .before .before .before .earlier-test .taken) (sym (c .before .blocks2 .ensures) ∙ c .if2 .taken)))
+search-again c =
+    let try = c .before .before .before .before .before .earlier .inv in
+    let takes = any-hit _ _ _ (c .before .before .before .before .earlier-test .taken) (sym (c .before .blocks2 .ensures) ∙ c .if2 .taken) in
+    try .answer ∙ first-miss _ _ _ (try .below) (ap not (try .none ∙ takes))
 
 add-k : tie.Need-add-k Inv-earlier μ-earlier Inv-search μ-search
 add-k c = search needs
@@ -81,13 +89,18 @@ earlier-less c = search needs
 
 earlier-again : tie.Need-earlier-again Inv-earlier μ-earlier Inv-search μ-search
 unfolding earlier
-earlier-again c = let v = c .before .before .before .before .before .earlier .inv in record { same = v .same; below = v .below; answer = v .answer; upto = omega arith; none = v .none ∙ any-miss _ _ _ (c .before .before .before .before .earlier-test .taken) (sym (c .before .blocks2 .ensures) ∙ c .if2 .left) }
+earlier-again c =
+    let try = c .before .before .before .before .before .earlier .inv in
+    let passes = any-miss _ _ _ (c .before .before .before .before .earlier-test .taken) (sym (c .before .blocks2 .ensures) ∙ c .if2 .left) in
+    record { same = try .same; below = try .below; answer = try .answer; upto = omega arith; none = try .none ∙ passes }
 
 returns : tie.Need-returns Inv-earlier μ-earlier Inv-search μ-search
 returns c = sym (c .before .search .inv ∙ first-end _ _ _ (c .if1 .taken))
 
 returns-2 : tie.Need-returns-2 Inv-earlier μ-earlier Inv-search μ-search
-returns-2 c = let v = c .before .earlier .inv in sym (v .answer ∙ first-hit _ _ _ (v .below) (ap not (v .none ∙ any-end _ _ _ (c .earlier-test .left))))
+returns-2 c =
+    let try = c .before .earlier .inv in
+    sym (try .answer ∙ first-hit _ _ _ (try .below) (ap not (try .none ∙ any-end _ _ _ (c .earlier-test .left))))
 
 pub free-offset-spec : {M : Type 1} → statement M
 free-offset-spec =

@@ -35,10 +35,19 @@ loop-less : tie.Need-loop-less Inv-loop μ-loop
 loop-less c = search needs
 
 loop-again : tie.Need-loop-again Inv-loop μ-loop
-loop-again c = (search needs, ⊎-elim (λ w. rw (w .2) (next-take _ _ _ _ _ (w .0 .taken) (c .before .before .before .loop .inv .1) (w .1 .ensures))) (λ w. rw (w .1) (next-skip _ _ _ _ (w .0 .left) (c .before .before .before .loop .inv .1))) (c .if1 .came))
+loop-again c =
+    let sofar = c .before .before .before .loop .inv .1 in (
+      search needs,
+      ⊎-elim
+          (λ w. rw (w .2) (next-take _ _ _ _ _ (w .0 .taken) sofar (w .1 .ensures)))
+          (λ w. rw (w .1) (next-skip _ _ _ _ (w .0 .left) sofar))
+          (c .if1 .came),
+    )
 
 returns : tie.Need-returns Inv-loop μ-loop
-returns c = let e : c .before .loop .i ≡ length (c .before .before .before .args .periods .now) = omega arith in rw (← e) (c .before .loop .inv .1)
+returns c =
+    let all : c .before .loop .i ≡ length (c .before .before .before .args .periods .now) = omega arith in
+    rw (← all) (c .before .loop .inv .1)
 
 pub next-period-spec : {M : Type 1} → statement M
 next-period-spec =

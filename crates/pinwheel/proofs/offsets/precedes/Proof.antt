@@ -1,5 +1,4 @@
 -- `offsets::precedes` goes by the tests of the dealing order, one answer for each.
-use borrow.Author.Needs.{needs}
 use borrow.Author.Tests.{lt-ltb, le-ltb, eq-eqb, ne-eqb}
 use Rattle.pinwheel.proofs.offsets.precedes.Statement.{statement}
 use Rattle.pinwheel.proofs.offsets.precedes.Tie as tie

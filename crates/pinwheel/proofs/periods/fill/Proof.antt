@@ -2,7 +2,6 @@
 use borrow.Author.Needs.{needs}
 use Prim.Native.Nat.{_-_}
 use lib.ListN.{length}
-use native.Mathlib.Omega.{arith}
 use Rattle.pinwheel.specs.Rule.{period}
 use Rattle.pinwheel.proofs.Laws.Lists.{Filled, filled-start, filled-more, filled-end}
 use Rattle.pinwheel.proofs.periods.fill.Statement.{statement}
@@ -24,7 +23,9 @@ shared-slice-read-period-of : tie.Need-shared-slice-read-period-of Inv-loop μ-l
 shared-slice-read-period-of c = search needs
 
 period-of-requires : tie.Need-period-of-requires Inv-loop μ-loop
-period-of-requires c κs = (c .before .before .before .before .before .pre .0 .two, c .before .before .before .before .before .pre .0 .one, c .before .before .before .before .before .pre .0 .within _ (c .before .loop-test .taken))
+period-of-requires c κs =
+    let allowed = c .before .before .before .before .before .pre .0 in
+    (allowed .two, allowed .one, allowed .within _ (c .before .loop-test .taken))
 
 mul-periods : tie.Need-mul-periods Inv-loop μ-loop
 mul-periods c = search needs

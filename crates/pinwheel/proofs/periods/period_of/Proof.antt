@@ -33,7 +33,9 @@ loop-again : tie.Need-loop-again Inv-loop μ-loop
 loop-again c = grown-more _ _ _ _ (c .before .before .pre .0) (c .before .loop .inv) (turn c)
 
 returns : tie.Need-returns Inv-loop μ-loop
-returns c = grown-end _ _ _ _ (c .before .before .pre .0) (c .before .before .pre .1) (c .before .loop .inv) (div-lt-iff-lt-mul (search needs) .0 (c .loop-test .left))
+returns c =
+    let pre = c .before .before .pre in
+    grown-end _ _ _ _ (pre .0) (pre .1) (c .before .loop .inv) (div-lt-iff-lt-mul (search needs) .0 (c .loop-test .left))
 
 pub period-of-spec : {M : Type 1} → statement M
 period-of-spec =
