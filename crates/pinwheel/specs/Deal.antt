@@ -9,17 +9,17 @@ use Rattle.pinwheel.specs.declared.Answer.the-variants.{Base, Refused}
 use Rattle.pinwheel.specs.Search.{first}
 use Rattle.pinwheel.specs.Rule.{base, periodsOf, offsetsOf}
 
--- 01, "Every refusal is a number with a place": an outcome in 01's terms. An accepted list of gaps has its base.
+-- An outcome in the terms of 01's table of refusals: the base, or the number and the place.
 pub data Outcome : Type 0 where
   accepted : ℕ → Outcome
   refused : ℕ → ℕ → Outcome
 
--- What each case of the answer says in these terms.
+-- What each case of the answer says in those terms.
 abbrev pub outcome : Answer → Outcome
 outcome (Base b) = accepted b
 outcome (Refused number place) = refused number place
 
--- 01, "wanted gap 1 to 1,024": the gap at index i is outside its limits.
+-- 01's limit on wanted gaps, 1 to 1,024: the one at index i is outside.
 unfoldable pub badGap : List ℕ → ℕ → Bool
 badGap gaps i = eqb (getD gaps i 0) 0 || ltb 1024 (getD gaps i 0)
 
@@ -27,8 +27,8 @@ badGap gaps i = eqb (getD gaps i 0) 0 || ltb 1024 (getD gaps i 0)
 unfoldable pub firstBad : List ℕ → ℕ
 firstBad gaps = first (badGap gaps) (length gaps) 0
 
--- The outcome, the offsets and the periods: the first failing check refuses and leaves both lists as they were.
--- 1: a list that is not as long as the gaps. 5: a count outside 1 to 63, then the first bad gap. 11: no base fits.
+-- The outcome, the offsets and the periods. The first check that fails refuses, and then both lists are as they were:
+-- 1 for a list that is not as long as the gaps, 5 for a count outside 1 to 63, 5 for the first gap outside its limits, 11 where no base fits.
 unfoldable pub dealt : ℕ → List ℕ → List ℕ → List ℕ → Outcome × List ℕ × List ℕ
 dealt f gaps offsets periods =
     cond (not (eqb (length offsets) (length gaps))) (refused 1 0, offsets, periods)

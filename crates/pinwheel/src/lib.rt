@@ -1,4 +1,4 @@
-// The slot rule: from the gaps wanted by the children of one parent it deals their periods and offsets. It knows no plans, bytes or flows.
+// The slot rule: from the gaps wanted by the children of one parent it deals out their periods and offsets. It knows no plans, bytes or flows.
 mod bases;
 mod offsets;
 mod periods;
@@ -7,12 +7,13 @@ ghost use mathlib.Core.Path.{_≡_};
 ghost use Prim.Native.Nat.{_<_};
 ghost use Rattle.pinwheel.specs.Deal.{outcome, dealt, firstBad};
 
-// The base that was dealt by, or the number and the place of a refusal.
+// The base that was found, or the number and the place of a refusal.
 pub enum Answer {
     Base(u16),
     Refused(u8, usize),
 }
 
+// The index of the first gap outside 1 to 1,024, or the number of gaps.
 fn first_bad(gaps: &[u16]) -> usize
     ensures { λ r. ⌜ r ≡ firstBad (now (gaps .entry)) ⌝ }
 {
@@ -26,6 +27,7 @@ fn first_bad(gaps: &[u16]) -> usize
     i
 }
 
+// Fills both lists, which are as long as the gaps, and answers the base. Nothing is written before the last check has passed.
 pub fn deal(gaps: &[u16], offsets: &mut [u16], periods: &mut [u16]) -> Answer
     ensures { λ r. ⌜ (outcome r, now (offsets .exit), now (periods .exit))
         ≡ dealt 2 (now (gaps .entry)) (now (offsets .entry)) (now (periods .entry)) ⌝ }

@@ -1,16 +1,15 @@
 // Offsets of children whose periods are known.
 ghost use mathlib.Core.Path.{_≡_};
-ghost use mathlib.Core.Bool.{true, not, _&&_, _||_};
+ghost use mathlib.Core.Bool.{true, not, _&&_};
 ghost use Prim.Native.Nat.{ℕ, _≤_, _<_, min};
-ghost use lib.Dec.{eqb, ltb};
 ghost use lib.ListN.{length, getD};
 ghost use Rattle.pinwheel.specs.Search.{firstIn};
-ghost use Rattle.pinwheel.specs.Rule.{sends, taken, offsetsFor};
+ghost use Rattle.pinwheel.specs.Rule.{goesBefore, sends, taken, offsetsFor};
 ghost use Rattle.pinwheel.specs.Inner.{Roomy, Passed, Level, Next};
 
-// Child k, of this period, goes before the child of period p and index i.
+// A child of this period and index k has its turn before the child of period p and index i.
 fn precedes(period: u16, k: usize, p: u16, i: usize) -> bool
-    ensures { λ r. ⌜ r ≡ (ltb period p || (eqb period p && ltb k i)) ⌝ }
+    ensures { λ r. ⌜ r ≡ goesBefore period k p i ⌝ }
 {
     if period < p {
         return true;
@@ -21,10 +20,10 @@ fn precedes(period: u16, k: usize, p: u16, i: usize) -> bool
     k < i
 }
 
-// It does, and sends in slot t.
+// It has, and sends in slot t.
 fn blocks(period: u16, offset: u16, k: usize, p: u16, i: usize, t: u16) -> bool
     requires { ⌜ 1 ≤ period ⌝ }
-    ensures { λ r. ⌜ r ≡ ((ltb period p || (eqb period p && ltb k i)) && sends period offset t) ⌝ }
+    ensures { λ r. ⌜ r ≡ (goesBefore period k p i && sends period offset t) ⌝ }
 {
     if precedes(period, k, p, i) {
         t % period == offset
@@ -33,7 +32,7 @@ fn blocks(period: u16, offset: u16, k: usize, p: u16, i: usize, t: u16) -> bool
     }
 }
 
-// The smallest offset from `from` on, below the period p, in which no child sends that goes before the child of period p and index i.
+// The smallest offset from `from` on and below the period p that no child takes which has its turn before the child of period p and index i.
 fn free_offset(periods: &[u16], offsets: &[u16], p: u16, i: usize, from: u16) -> u16
     requires { ⌜ (length (now offsets) ≡ length (now periods)) × ((k : ℕ) → k < length (now periods) → 1 ≤ getD (now periods) k 0) ⌝ }
     ensures { λ r. ⌜ r ≡ firstIn (λ o. not (taken (now (periods .entry)) (now (offsets .entry)) p i o)) p from ⌝ }
@@ -104,6 +103,7 @@ fn next_period(periods: &[u16], p: u16) -> u16
     next
 }
 
+// Deals all children, period by period.
 pub(crate) fn fill(periods: &[u16], offsets: &mut [u16])
     requires { ⌜ (length (now offsets) ≡ length (now periods)) × Roomy (now periods) ⌝ }
     ensures { λ _. ⌜ now (offsets .exit) ≡ offsetsFor (now (periods .entry)) ⌝ }

@@ -2,6 +2,38 @@
 use pinwheel::Answer;
 ghost use Prim.Native.Nat.{_<_};
 
+// Six gaps of 1,024, then 17, 20, 13, 2 and 4 of smaller ones, and one of 2: together they take every slot.
+fn nth_gap(i: usize) -> u16 {
+    if i < 6 {
+        return 1024;
+    }
+    if i < 23 {
+        return 512;
+    }
+    if i < 43 {
+        return 256;
+    }
+    if i < 56 {
+        return 128;
+    }
+    if i < 58 {
+        return 64;
+    }
+    if i < 62 {
+        return 16;
+    }
+    2
+}
+
+// The gaps are the periods, and the last offset dealt is 1,023: 46,387 collision tests are made on the way.
+fn full() -> [u16; 63] {
+    let mut gaps = [0u16; 63];
+    for i in 0..63 {
+        gaps[i] = nth_gap(i);
+    }
+    gaps
+}
+
 // The base of an answer, and 0 for a refusal.
 fn base_of(answer: Answer) -> u64
     ensures { λ r. ⌜ r < 65536 ⌝ }
@@ -23,25 +55,16 @@ fn deal_often(gaps: &[u16], offsets: &mut [u16], periods: &mut [u16]) -> u64 {
     sum
 }
 
-fn print_line(n: u64) {
-    io::print_decimal(1, n);
+fn show(name: &[u8], gaps: [u16; 63]) {
+    let mut offsets = [0u16; 63];
+    let mut periods = [0u16; 63];
+    io::write_all(1, name);
+    io::print_decimal(1, deal_often(&gaps, &mut offsets, &mut periods));
     io::write_all(1, b"\n");
 }
 
 fn main() {
-    // The last child's offset is 911, and nearly all below it are taken by one of 56 children.
-    let mut long = [57u16; 61];
-    long[56] = 114;
-    long[57] = 228;
-    long[58] = 456;
-    long[59] = 912;
-    long[60] = 912;
-    let mut offsets = [0u16; 61];
-    let mut periods = [0u16; 61];
-    print_line(deal_often(&long, &mut offsets, &mut periods));
-    // No base from 62 to 32 fits, and those are all that are tried.
-    let crowded = [62u16; 63];
-    let mut none = [0u16; 63];
-    let mut nil = [0u16; 63];
-    print_line(deal_often(&crowded, &mut none, &mut nil));
+    show(b"full ", full());
+    // No base fits, and the bases from 62 to 32 are tried.
+    show(b"crowded ", [62; 63]);
 }
