@@ -1,10 +1,11 @@
 -- What the inner functions ask of their callers and tell them. The public promise cites none of this.
 use Prim.Native.Nat.{ℕ, _<_, _≤_}
 use mathlib.Core.Path.{_≡_}
-use mathlib.Core.Bool.{true}
+use mathlib.Core.Bool.{Bool, true}
 use mathlib.Core.List.{List}
 use lib.ListN.{length, getD}
-use Rattle.pinwheel.specs.Rule.{taken, freeOffset, level}
+use Rattle.pinwheel.specs.Search.{any, count}
+use Rattle.pinwheel.specs.Rule.{sends, earlier, taken, freeOffset}
 
 -- A factor from 2 up, and a base that rule 1 allows for these gaps.
 pub record Allowed (f b : ℕ) (gaps : List ℕ) : Type 0 where
@@ -16,14 +17,19 @@ pub record Allowed (f b : ℕ) (gaps : List ℕ) : Type 0 where
 pub record Roomy (ps : List ℕ) : Type 0 where
   pub room : (os : List ℕ) (i : ℕ) → i < length ps → freeOffset ps os (getD ps i 0) i < getD ps i 0
 
--- Every offset below `from` is taken when the turn of period p and index i comes.
-pub record Passed (ps os : List ℕ) (p i from : ℕ) : Type 0 where
-  pub passed : (o : ℕ) → o < from → taken ps os p i o ≡ true
+-- One of the first n children of these periods and offsets sends in slot t.
+unfoldable pub someSends : List ℕ → List ℕ → ℕ → ℕ → Bool
+someSends steps places n t = any (λ k. sends (getD steps k 0) (getD places k 0) t) n 0
 
--- The children of period p have had their turns, and every offset below `from` is taken.
-pub record Level (ps : List ℕ) (p : ℕ) (before after : List ℕ) (from : ℕ) : Type 0 where
-  pub turns : after ≡ level ps p (length ps) 0 before
-  pub below : Passed ps after p (length ps) from
+-- At the turn of period p and index i: `steps` and `places` hold the periods and offsets of the n children that had theirs, in that order,
+-- and every offset below `from` is taken.
+pub record Ready (ps os : List ℕ) (p i : ℕ) (steps places : List ℕ) (n from : ℕ) : Type 0 where
+  pub steps-long : length steps ≡ 63
+  pub places-long : length places ≡ 63
+  pub number : n ≡ count (earlier ps p i) (length ps)
+  pub positive : (k : ℕ) → k < n → 1 ≤ getD steps k 0
+  pub same : (t : ℕ) → someSends steps places n t ≡ taken ps os p i t
+  pub passed : (o : ℕ) → o < from → taken ps os p i o ≡ true
 
 -- r is the smallest of the first n periods that is above p, or 0 where none is.
 pub record Next (ps : List ℕ) (n p r : ℕ) : Type 0 where

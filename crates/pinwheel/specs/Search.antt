@@ -18,6 +18,15 @@ unfoldable pub any : (ℕ → Bool) → ℕ → ℕ → Bool
 any p zero k = false
 any p (suc r) k = cond (p k) true (any p r (k + 1))
 
+-- How many of the numbers below n have the test.
+abbrev pub bit : Bool → ℕ
+bit true = 1
+bit false = 0
+
+unfoldable pub count : (ℕ → Bool) → ℕ → ℕ
+count p zero = 0
+count p (suc n) = bit (p n) + count p n
+
 -- The sum of a list.
 unfoldable pub total : List ℕ → ℕ
 total [] = 0

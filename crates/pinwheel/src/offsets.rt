@@ -1,43 +1,23 @@
 // Offsets of children whose periods are known.
 ghost use mathlib.Core.Path.{_≡_};
-ghost use mathlib.Core.Bool.{true, not, _&&_};
+ghost use mathlib.Core.Bool.{not};
 ghost use Prim.Native.Nat.{ℕ, _≤_, _<_, min};
 ghost use lib.ListN.{length, getD};
 ghost use Rattle.pinwheel.specs.Search.{firstIn};
-ghost use Rattle.pinwheel.specs.Rule.{goesBefore, sends, taken, offsetsFor};
-ghost use Rattle.pinwheel.specs.Inner.{Roomy, Passed, Level, Next};
+ghost use Rattle.pinwheel.specs.Rule.{level, offsetsFor};
+ghost use Rattle.pinwheel.specs.Inner.{Roomy, someSends, Ready, Next};
 
-// A child of this period and index k has its turn before the child of period p and index i.
-fn precedes(period: u16, k: usize, p: u16, i: usize) -> bool
-    ensures { λ r. ⌜ r ≡ goesBefore period k p i ⌝ }
-{
-    if period < p {
-        return true;
-    }
-    if period != p {
-        return false;
-    }
-    k < i
+// What a pass over the children leaves: how many have been dealt, and the first offset that the next one can have.
+struct Progress {
+    count: usize,
+    from: u16,
 }
 
-// It has, and sends in slot t.
-fn blocks(period: u16, offset: u16, k: usize, p: u16, i: usize, t: u16) -> bool
-    requires { ⌜ 1 ≤ period ⌝ }
-    ensures { λ r. ⌜ r ≡ (goesBefore period k p i && sends period offset t) ⌝ }
+// The smallest offset from `from` on and below the period p in which none of the first n children of `steps` and `places` sends.
+fn free_offset(steps: &[u16; 63], places: &[u16; 63], n: usize, p: u16, from: u16) -> u16
+    requires { ⌜ (n ≤ 63) × ((k : ℕ) → k < n → 1 ≤ getD (now steps) k 0) ⌝ }
+    ensures { λ r. ⌜ r ≡ firstIn (λ o. not (someSends (now (steps .entry)) (now (places .entry)) n o)) p from ⌝ }
 {
-    if precedes(period, k, p, i) {
-        t % period == offset
-    } else {
-        false
-    }
-}
-
-// The smallest offset from `from` on and below the period p that no child takes which has its turn before the child of period p and index i.
-fn free_offset(periods: &[u16], offsets: &[u16], p: u16, i: usize, from: u16) -> u16
-    requires { ⌜ (length (now offsets) ≡ length (now periods)) × ((k : ℕ) → k < length (now periods) → 1 ≤ getD (now periods) k 0) ⌝ }
-    ensures { λ r. ⌜ r ≡ firstIn (λ o. not (taken (now (periods .entry)) (now (offsets .entry)) p i o)) p from ⌝ }
-{
-    let n = periods.len();
     let mut candidate = from;
     'search: loop {
         if candidate >= p {
@@ -45,7 +25,7 @@ fn free_offset(periods: &[u16], offsets: &[u16], p: u16, i: usize, from: u16) ->
         }
         let mut k = 0;
         'earlier: while k < n {
-            if blocks(periods[k], offsets[k], k, p, i, candidate) {
+            if candidate % steps[k] == places[k] {
                 candidate += 1;
                 continue 'search;
             }
@@ -55,23 +35,39 @@ fn free_offset(periods: &[u16], offsets: &[u16], p: u16, i: usize, from: u16) ->
     }
 }
 
-// Deals the children of period p. Every offset below `from` is taken already, and every one below the answer is taken then:
-// so the next child's search starts where this one ended.
-fn fill_level(periods: &[u16], p: u16, offsets: &mut [u16], from: u16) -> u16
-    requires { ⌜ (length (now offsets) ≡ length (now periods)) × Roomy (now periods) × Passed (now periods) (now offsets) p 0 from ⌝ }
-    ensures { λ r. ⌜ Level (now (periods .entry)) p (now (offsets .entry)) (now (offsets .exit)) r ⌝ }
+// Deals the children of period p and puts each behind those dealt before. All offsets below the last one dealt are taken and stay so:
+// the next child's search starts where this one ended.
+fn fill_level(
+    periods: &[u16],
+    p: u16,
+    offsets: &mut [u16],
+    steps: &mut [u16; 63],
+    places: &mut [u16; 63],
+    start: Progress,
+) -> Progress
+    requires { ⌜ (length (now offsets) ≡ length (now periods)) × (length (now periods) ≤ 63) × Roomy (now periods)
+        × Ready (now periods) (now offsets) p 0 (now steps) (now places) (start .count) (start .from) ⌝ }
+    ensures { λ r. ⌜ (now (offsets .exit) ≡ level (now (periods .entry)) p (length (now (periods .entry))) 0 (now (offsets .entry)))
+        × Ready (now (periods .entry)) (now (offsets .exit)) p (length (now (periods .entry))) (now (steps .exit)) (now (places .exit)) (r .count) (r .from) ⌝ }
 {
-    let mut next = from;
+    let mut n = start.count;
+    let mut from = start.from;
     let mut i = 0;
     while i < periods.len() {
         if periods[i] == p {
-            let offset = free_offset(periods, offsets, p, i, next);
+            let offset = free_offset(steps, places, n, p, from);
             offsets[i] = offset;
-            next = offset + 1;
+            steps[n] = p;
+            places[n] = offset;
+            n += 1;
+            from = offset + 1;
         }
         i += 1;
     }
-    next
+    Progress {
+        count: n,
+        from: from,
+    }
 }
 
 // The smaller of two periods, of which the first may be missing, as 0.
@@ -105,17 +101,19 @@ fn next_period(periods: &[u16], p: u16) -> u16
 
 // Deals all children, period by period.
 pub(crate) fn fill(periods: &[u16], offsets: &mut [u16])
-    requires { ⌜ (length (now offsets) ≡ length (now periods)) × Roomy (now periods) ⌝ }
+    requires { ⌜ (length (now offsets) ≡ length (now periods)) × (length (now periods) ≤ 63) × Roomy (now periods) ⌝ }
     ensures { λ _. ⌜ now (offsets .exit) ≡ offsetsFor (now (periods .entry)) ⌝ }
 {
+    let mut steps = [0u16; 63];
+    let mut places = [0u16; 63];
+    let mut done = Progress { count: 0, from: 0 };
     let mut p = 0;
-    let mut from = 0;
     loop {
         let q = next_period(periods, p);
         if q == 0 {
             return;
         }
-        from = fill_level(periods, q, offsets, from);
+        done = fill_level(periods, q, offsets, &mut steps, &mut places, done);
         p = q;
     }
 }

@@ -8,17 +8,8 @@ use borrow.Author.Tests.{eqb-true}
 use native.Mathlib.Nat.{add-zero, add-suc, zero-mul, suc-mul, mul-zero, mul-add, mul-add-mod-self-right}
 use native.Mathlib.Nat.{mul-le-mul-right, mod-lt, mod-eq-of-lt, div-add-mod', eq-or-lt-of-le}
 use native.Mathlib.Omega.{arith}
-use Rattle.pinwheel.specs.Search.{any}
+use Rattle.pinwheel.specs.Search.{any, bit, count}
 use Rattle.pinwheel.proofs.Laws.Search.{lt-or-le}
-
-abbrev bit : Bool → ℕ
-bit true = 1
-bit false = 0
-
--- The numbers below n that pass the test p.
-unfoldable pub count : (ℕ → Bool) → ℕ → ℕ
-count p zero = 0
-count p (suc n) = bit (p n) + count p n
 
 -- h k + h (k + 1) + .. over r indices.
 unfoldable pub sumOf : (ℕ → ℕ) → ℕ → ℕ → ℕ
@@ -44,10 +35,34 @@ unfolding count
 count-add p n zero = simp add-zero
 count-add p n (suc m) = rw add-suc (omega (arith, count-add p n m))
 
-count-ext : (p q : ℕ → Bool) (n : ℕ) → ((c : ℕ) → c < n → p c ≡ q c) → count p n ≡ count q n
+pub count-ext : (p q : ℕ → Bool) (n : ℕ) → ((c : ℕ) → c < n → p c ≡ q c) → count p n ≡ count q n
 unfolding count
 count-ext p q zero h = refl
 count-ext p q (suc n) h = rw (h n (omega arith), count-ext p q n (λ c l. h c (omega arith)))
+
+pub count-le : (p : ℕ → Bool) (n : ℕ) → count p n ≤ n
+unfolding count
+count-le p zero = omega arith
+count-le p (suc n) = go (p n) (count-le p n)
+  where
+    go : (t : Bool) → count p n ≤ n → bit t + count p n ≤ suc n
+    go true ih = omega arith
+    go false ih = omega arith
+
+-- A test that passes at one number more counts one more.
+pub count-more : (p q : ℕ → Bool) (n i : ℕ) → i < n → p i ≡ false → q i ≡ true → ((k : ℕ) → (k ≡ i → ⊥) → p k ≡ q k) → count q n ≡ count p n + 1
+unfolding count
+count-more p q zero i l e t same = absurd (omega arith)
+count-more p q (suc n) i l e t same = go (eq-or-lt-of-le l) (count-more p q n i)
+  where
+    go : (suc i ≡ suc n) ⊎ (suc i < suc n)
+        → (i < n → p i ≡ false → q i ≡ true → ((k : ℕ) → (k ≡ i → ⊥) → p k ≡ q k) → count q n ≡ count p n + 1)
+        → bit (q n) + count q n ≡ (bit (p n) + count p n) + 1
+    go (inl z) ih =
+        let w : i ≡ n = omega arith in
+        let rest = count-ext p q n (λ k m. same k (λ y. omega arith)) in
+        rw (rw w at t, rw w at e, rest) (omega arith)
+    go (inr m) ih = rw (same n (λ y. omega arith)) (omega (arith, ih (omega arith) e t same))
 
 -- A number that passes one of two tests is counted for at least one of them.
 count-either : (p q : ℕ → Bool) (n : ℕ) → count (λ c. cond (p c) true (q c)) n ≤ count p n + count q n

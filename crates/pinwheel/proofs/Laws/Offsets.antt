@@ -5,14 +5,14 @@ use mathlib.Core.Path.{_≡_, refl, sym, _∙_, ap}
 use mathlib.Core.Bool.{Bool, true, false, not, _&&_, false≢true}
 use mathlib.Core.List.{List}
 use mathlib.Core.Logic.{_⊎_, inl, inr}
-use lib.Dec.{eqb, ltb}
+use lib.Dec.{eqb}
 use lib.ListN.{length, getD, set, replicate, length-set, length-replicate}
 use lib.Seq.{getD-set-same, getD-set-other, ext-getD}
 use borrow.Author.Tests.{lt-ltb, le-ltb, eq-eqb, ltb-true, eqb-true, eqb-false}
 use native.Mathlib.Nat.{eq-or-lt-of-le}
 use native.Mathlib.Omega.{arith}
 use Rattle.pinwheel.specs.Search.{largest}
-use Rattle.pinwheel.specs.Rule.{sends, goesBefore, earlier, taken, freeOffset, turn, level, levels, offsetsFor}
+use Rattle.pinwheel.specs.Rule.{sends, earlier, taken, freeOffset, turn, level, levels, offsetsFor}
 use Rattle.pinwheel.proofs.Laws.Search.{lt-or-le, any-some, any-at, any-ext, first-ext}
 use Rattle.pinwheel.proofs.Laws.Bases.{largest-above}
 
@@ -24,17 +24,17 @@ both false b e = absurd (false≢true e)
 module _ (ps : List ℕ) (p i k : ℕ) where
   -- The dealing order in words.
   pub earlier-why : earlier ps p i k ≡ true → (getD ps k 0 < p) ⊎ ((getD ps k 0 ≡ p) × (k < i))
-  unfolding earlier goesBefore
+  unfolding earlier
   earlier-why e =
       elim (lt-or-le (getD ps k 0) p)
       [ inl l ↦ inl l | inr m ↦ let w = both _ _ (simp (le-ltb _ _ m) at e) in inr (eqb-true _ _ (w .0), ltb-true _ _ (w .1)) ]
 
   pub earlier-below : getD ps k 0 < p → earlier ps p i k ≡ true
-  unfolding earlier goesBefore
+  unfolding earlier
   earlier-below l = simp (lt-ltb _ _ l)
 
   pub earlier-same : getD ps k 0 ≡ p → k < i → earlier ps p i k ≡ true
-  unfolding earlier goesBefore
+  unfolding earlier
   earlier-same e l = let n : p ≤ getD ps k 0 = omega arith in simp (le-ltb _ _ n, eq-eqb _ _ e, lt-ltb _ _ l)
 
 pub earlier-le : (ps : List ℕ) (p i k : ℕ) → earlier ps p i k ≡ true → getD ps k 0 ≤ p
@@ -62,7 +62,7 @@ module _ (ps : List ℕ) (p i k : ℕ) where
 
 -- No child goes before itself, nor before one that goes before it.
 pub earlier-self : (ps : List ℕ) (i : ℕ) → earlier ps (getD ps i 0) i i ≡ false
-unfolding earlier goesBefore
+unfolding earlier
 earlier-self ps i = simp (le-ltb (getD ps i 0) (getD ps i 0) (omega arith), le-ltb i i (omega arith), eq-eqb (getD ps i 0) (getD ps i 0) refl)
 
 earlier-not : (ps : List ℕ) (i k : ℕ) → earlier ps (getD ps i 0) i k ≡ true → earlier ps (getD ps k 0) k i ≡ true → ⊥

@@ -9,7 +9,7 @@ use borrow.Author.Tests.{leb-true}
 use native.Mathlib.Nat.{zero-add, add-zero, zero-mul, mul-zero, mul-assoc, mul-le-mul-left}
 use native.Mathlib.Nat.{lt-of-mul-lt-mul-left, lt-of-mul-lt-mul-right, div-eq-of-eq-mul-left}
 use native.Mathlib.Omega.{arith}
-use Rattle.pinwheel.specs.Search.{total, largest}
+use Rattle.pinwheel.specs.Search.{total, largest, count}
 use Rattle.pinwheel.specs.Rule.{period, sum, limit, fits, base, periodsOf, sends, earlier, taken, freeOffset}
 use Rattle.pinwheel.specs.Inner.{Roomy}
 use Rattle.pinwheel.proofs.Laws.Search.{first-within}
@@ -17,7 +17,7 @@ use Rattle.pinwheel.proofs.Laws.Lists.{getD-map}
 use Rattle.pinwheel.proofs.Laws.Periods.{period-least, period-divides}
 use Rattle.pinwheel.proofs.Laws.Bases.{limit-largest, limit-common, sum-shares, base-fits}
 use Rattle.pinwheel.proofs.Laws.Offsets.{earlier-self, earlier-le}
-use Rattle.pinwheel.proofs.Laws.Counting.{count, sumOf, count-room, count-none, class-le, count-any, sumOf-le, sumOf-without, sumOf-scale}
+use Rattle.pinwheel.proofs.Laws.Counting.{sumOf, count-room, count-none, class-le, count-any, sumOf-le, sumOf-without, sumOf-scale}
 
 -- Periods of which the smaller divides the larger, and whose shares of a common multiple sum to at most that multiple.
 pub record Harmonic (ps : List ℕ) (common : ℕ) : Type 0 where

@@ -79,7 +79,7 @@ fill-requires-2 c κs =
     let some = fit (c .before .before .before .before .before .before) in
     let periods = made (c .before .before .before .before) in
     let long = periods-long 2 two (start passed .args .gaps .now) some in
-    (good passed .offsets-long ∙ sym (rw periods long), rw periods (base-roomy 2 two (start passed .args .gaps .now) some))
+    (good passed .offsets-long ∙ sym (rw periods long), rw (periods, long) (good passed .few), rw periods (base-roomy 2 two (start passed .args .gaps .now) some))
 
 same-length : tie.Need-same-length
 same-length c = search needs
