@@ -89,7 +89,8 @@ module _ (f : ℕ) (two : 2 ≤ f) where
   crowded-when gaps offsets periods =
       (λ e. (good e, none e (lt-or-le 0 (base f gaps))), λ w. outcome-none gaps offsets periods (w .0) (base-none f two gaps .1 (w .1)))
     where
-      other : (number place : ℕ) → (11 ≡ number → ⊥) → dealt f gaps offsets periods .0 ≡ refused 11 0 → dealt f gaps offsets periods .0 ≡ refused number place → ⊥
+      other : (number place : ℕ) → (11 ≡ number → ⊥) → dealt f gaps offsets periods .0 ≡ refused 11 0
+          → dealt f gaps offsets periods .0 ≡ refused number place → ⊥
       other number place n e q = n cc
 
       good : dealt f gaps offsets periods .0 ≡ refused 11 0 → Good gaps offsets periods
@@ -234,7 +235,7 @@ module _ (f : ℕ) (two : 2 ≤ f) (gaps : List ℕ) (h : 1 ≤ base f gaps) whe
       go (i, m, e) =
           let l : i < length ps = rw (periods-long f two gaps h) m in (i, l, period-at f two gaps h i l ∙ rw e (base-period f two gaps h))
 
--- Fitting neither rises nor falls with the base: of four gaps of 4 the bases 1, 2 and 4 fit, and 3 does not. So no base may be left out for the sake of another.
+-- Fitting neither rises nor falls with the base: of four gaps of 4 the bases 1, 2 and 4 fit, and 3 does not.
 pub fits-unordered : map (λ b. fits 2 b (4 ∷ 4 ∷ 4 ∷ 4 ∷ [])) (1 ∷ 2 ∷ 3 ∷ 4 ∷ []) ≡ true ∷ true ∷ false ∷ true ∷ []
 unfolding fits sum limit exponent last total largest
 fits-unordered = refl

@@ -106,8 +106,8 @@ module _ (f : ℕ) (two : 2 ≤ f) where
       below i l = rw (greatest-largest b gaps one) (exponent-mono f two b (getD gaps i 0) (largest gaps) one (largest-above gaps i l))
 
   -- The sum as a loop over the gaps makes it, from the largest gap's period.
-  pub sum-quotients : (b : ℕ) (gaps : List ℕ) (top n : ℕ) → 1 ≤ b → top ≡ period f b (largest gaps) → n ≡ total (map (λ g. top / period f b g) gaps)
-      → n ≡ sum f b gaps
+  pub sum-quotients : (b : ℕ) (gaps : List ℕ) (top n : ℕ) → 1 ≤ b → top ≡ period f b (largest gaps)
+      → n ≡ total (map (λ g. top / period f b g) gaps) → n ≡ sum f b gaps
   sum-quotients b gaps top n one e q = rw (q, e, sum-shares b gaps one, limit-largest b gaps one)
 
   -- A base that can be multiplied within every gap fits just when its multiple does.

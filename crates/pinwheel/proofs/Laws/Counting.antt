@@ -50,7 +50,8 @@ count-le p (suc n) = go (p n) (count-le p n)
     go false ih = omega arith
 
 -- A test that passes at one number more counts one more.
-pub count-more : (p q : ℕ → Bool) (n i : ℕ) → i < n → p i ≡ false → q i ≡ true → ((k : ℕ) → (k ≡ i → ⊥) → p k ≡ q k) → count q n ≡ count p n + 1
+pub count-more : (p q : ℕ → Bool) (n i : ℕ) → i < n → p i ≡ false → q i ≡ true → ((k : ℕ) → (k ≡ i → ⊥) → p k ≡ q k)
+    → count q n ≡ count p n + 1
 unfolding count
 count-more p q zero i l e t same = absurd (omega arith)
 count-more p q (suc n) i l e t same = go (eq-or-lt-of-le l) (count-more p q n i)

@@ -106,7 +106,8 @@ module _ (p : ℕ → Bool) where
   pub first-skip : (n c : ℕ) → c ≤ n → ((k : ℕ) → k < c → p k ≡ false) → first p n 0 ≡ firstIn p n c
   first-skip n zero h none = let e : n - 0 ≡ n = omega arith in rw e
   first-skip n (suc c) h none =
-      first-skip n c (omega arith) (λ k l. none k (omega arith)) ∙ first-miss n c (omega arith) (none c (omega arith)) ∙ ap (λ (m : ℕ). firstIn p n m) (add-one c)
+      first-skip n c (omega arith) (λ k l. none k (omega arith))
+      ∙ first-miss n c (omega arith) (none c (omega arith)) ∙ ap (λ (m : ℕ). firstIn p n m) (add-one c)
 
   -- Whether one of the numbers from k on, below n, has the test.
   pub any-hit : (n k : ℕ) → k < n → p k ≡ true → any p (n - k) k ≡ true

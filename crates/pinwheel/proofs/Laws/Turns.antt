@@ -16,7 +16,8 @@ use Rattle.pinwheel.specs.Inner.{Roomy, someSends, Ready, Next}
 use Rattle.pinwheel.proofs.Laws.Search.{lt-or-le, first-passes, first-before, first-skip, first-ext, any-some, any-at, any-ext}
 use Rattle.pinwheel.proofs.Laws.Bases.{largest-above}
 use Rattle.pinwheel.proofs.Laws.Counting.{count-none, count-le, count-ext, count-more}
-use Rattle.pinwheel.proofs.Laws.Offsets.{earlier-self, earlier-same, earlier-below, earlier-le, earlier-why, earlier-more, earlier-joins, taken-why, taken-by, levels-offsets}
+use Rattle.pinwheel.proofs.Laws.Offsets.{earlier-self, earlier-same, earlier-below, earlier-le, earlier-why, earlier-more, earlier-joins}
+use Rattle.pinwheel.proofs.Laws.Offsets.{taken-why, taken-by, levels-offsets}
 
 -- The search for the next period: nothing passed yet, a period that is not above p, one that is.
 module _ (ps : List ℕ) (p : ℕ) where
@@ -56,6 +57,9 @@ both-ways true b f g = sym (f refl)
 both-ways false true f g = g refl
 both-ways false false f g = refl
 
+never : (a : Bool) → (a ≡ true → ⊥) → a ≡ false
+never a none = both-ways a false (λ e. absurd (none e)) (λ e. absurd (false≢true e))
+
 -- Where the same children have had their turns, everything is as it was.
 module _ (ps os steps places : List ℕ) (p i q j n from : ℕ) (same : (k : ℕ) → k < length ps → earlier ps p i k ≡ earlier ps q j k) where
   taken-same : (t : ℕ) → taken ps os p i t ≡ taken ps os q j t
@@ -81,9 +85,9 @@ ready-start ps os steps places roomy s-long p-long =
     record {
       steps-long = s-long;
       places-long = p-long;
-      number = sym (count-ext _ (λ k. false) (length ps) (λ k l. both-ways _ _ (λ e. absurd (none k l e)) (λ e. absurd (false≢true e))) ∙ count-none (length ps));
+      number = sym (count-ext _ (λ k. false) (length ps) (λ k l. never _ (none k l)) ∙ count-none (length ps));
       positive = λ k l. absurd (omega arith);
-      same = λ t. both-ways _ _ (λ e. absurd (false≢true e)) (λ e. absurd (nobody t (taken-why ps os 0 (length ps) t e)));
+      same = λ t. sym (never _ (λ e. nobody t (taken-why ps os 0 (length ps) t e)));
       passed = λ o l. absurd (omega arith);
     }
   where
@@ -237,12 +241,15 @@ module _ (ps before : List ℕ) (p i n from : ℕ) (os steps places : List ℕ) 
         most = omega arith;
         long = d .long;
         rest = d .rest ∙ level-step ps p i os os l (turn-other ps p i os none);
-        ready = ready-on ps os steps places p i p (i + 1) n from (λ k m. both-ways _ _ (earlier-more ps p i k) (λ h. other k (earlier-joins ps p i k h))) (d .ready);
+        ready = ready-on ps os steps places p i p (i + 1) n from (λ k m. same k) (d .ready);
       }
     where
       other : (k : ℕ) → (earlier ps p i k ≡ true) ⊎ ((k ≡ i) × (getD ps k 0 ≡ p)) → earlier ps p i k ≡ true
       other k (inl h) = h
       other k (inr (z, q)) = absurd (none (rw z at q))
+
+      same : (k : ℕ) → earlier ps p i k ≡ earlier ps p (i + 1) k
+      same k = both-ways _ _ (earlier-more ps p i k) (λ h. other k (earlier-joins ps p i k h))
 
   pub dealing-end : length ps ≤ i → (os ≡ level ps p (length ps) 0 before) × Ready ps os p (length ps) steps places n from
   unfolding level
@@ -306,7 +313,8 @@ pub upto-start : (ps os steps places : List ℕ) → Roomy ps → length os ≡ 
 upto-start ps os steps places roomy e s t =
     record { long = e; rest = let q : largest ps - 0 ≡ largest ps = omega arith in rw q; ready = ready-start ps os steps places roomy s t }
 
-module _ (ps before : List ℕ) (p n from : ℕ) (os steps places : List ℕ) (u : Upto ps before p n from os steps places) (q : ℕ) (w : Next ps (length ps) p q) where
+module _ (ps before : List ℕ) (p n from : ℕ) (os steps places : List ℕ) (u : Upto ps before p n from os steps places)
+    (q : ℕ) (w : Next ps (length ps) p q) where
   -- The next period is one of the children's.
   next-met : 0 < q → (p < q) × (q ≤ largest ps)
   next-met h = go (w .one h)
