@@ -62,6 +62,7 @@ fn show_refusals() {
 }
 
 fn show_schedules() {
+    // The base is the smallest period, so a child under base 1 sends in every slot and is alone.
     show(&[1]);
     show(&[7, 10, 10, 10, 10, 10, 10, 10, 10]);
     show(&[4, 4, 4, 4]);

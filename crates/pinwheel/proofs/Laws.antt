@@ -175,6 +175,10 @@ module _ (f : ℕ) (two : 2 ≤ f) (gaps : List ℕ) (h : 1 ≤ base f gaps) whe
   unfolding offsetsOf
   settled = offsets-settled ps (base-harmonic f two gaps h .positive)
 
+  -- Both lists are as long as the gaps.
+  pub lists-long : (length ps ≡ length gaps) × (length os ≡ length gaps)
+  lists-long = (periods-long f two gaps h, settled .long ∙ periods-long f two gaps h)
+
   offset-at : (i : ℕ) → i < length ps → (getD os i 0 ≡ freeOffset ps os (getD ps i 0) i) × (getD os i 0 < getD ps i 0)
   offset-at i l = let e = settled .each i l in (e, rw e (base-roomy f two gaps h .room os i l))
 
