@@ -60,6 +60,9 @@ module _ (ps : List ℕ) (p i k : ℕ) where
       go (inl l) = inl (earlier-below ps p i k l)
       go (inr (q, l)) = at q (eq-or-lt-of-le l)
 
+  pub earlier-back : ((k ≡ i) × (getD ps k 0 ≡ p) → ⊥) → earlier ps p (i + 1) k ≡ true → earlier ps p i k ≡ true
+  earlier-back none e = elim (earlier-joins e) [ inl w ↦ w | inr w ↦ absurd (none w) ]
+
 -- No child goes before itself, nor before one that goes before it.
 pub earlier-self : (ps : List ℕ) (i : ℕ) → earlier ps (getD ps i 0) i i ≡ false
 unfolding earlier
@@ -176,13 +179,9 @@ module _ (ps : List ℕ) where
   unfolding turn
   sofar-turn p i os l s = go (eqb (getD ps i 0) p) refl
     where
-      other : (getD ps i 0 ≡ p → ⊥) → (k : ℕ) → (earlier ps p i k ≡ true) ⊎ ((k ≡ i) × (getD ps k 0 ≡ p)) → earlier ps p i k ≡ true
-      other n k (inl w) = w
-      other n k (inr (z, q)) = absurd (n (rw z at q))
-
       go : (t : Bool) → eqb (getD ps i 0) p ≡ t → Sofar ps p (i + 1) (turn ps p i os)
       go true q = rw q (let e : getD ps i 0 ≡ p = eqb-true _ _ q in rw (← e) (sofar-set i os l (rw (← e) at s)))
-      go false q = rw q (record { long = s .long; each = λ k m w. s .each k m (other (eqb-false _ _ q) k (earlier-joins ps p i k w)) })
+      go false q = rw q (record { long = s .long; each = λ k m w. s .each k m (earlier-back ps p i k (λ y. eqb-false _ _ q (rw (y .0) at (y .1))) w) })
 
   sofar-rise : (p : ℕ) (os : List ℕ) → Sofar ps p (length ps) os → Sofar ps (p + 1) 0 os
   sofar-rise p os s = record { long = s .long; each = λ k m w. s .each k m (earlier-rise ps p k m w) }

@@ -16,7 +16,7 @@ use Rattle.pinwheel.specs.Inner.{Roomy, someSends, Ready, Next}
 use Rattle.pinwheel.proofs.Laws.Search.{lt-or-le, first-passes, first-before, first-skip, first-ext, any-some, any-at, any-ext}
 use Rattle.pinwheel.proofs.Laws.Bases.{largest-above}
 use Rattle.pinwheel.proofs.Laws.Counting.{count-none, count-le, count-ext, count-more}
-use Rattle.pinwheel.proofs.Laws.Offsets.{earlier-self, earlier-same, earlier-below, earlier-le, earlier-why, earlier-more, earlier-joins}
+use Rattle.pinwheel.proofs.Laws.Offsets.{earlier-self, earlier-same, earlier-below, earlier-le, earlier-why, earlier-more, earlier-joins, earlier-back}
 use Rattle.pinwheel.proofs.Laws.Offsets.{taken-why, taken-by, levels-offsets}
 
 -- The search for the next period: nothing passed yet, a period that is not above p, one that is.
@@ -123,12 +123,7 @@ turn-count : (ps : List ℕ) (i : ℕ) → i < length ps
     → count (earlier ps (getD ps i 0) (i + 1)) (length ps) ≡ count (earlier ps (getD ps i 0) i) (length ps) + 1
 turn-count ps i l =
     count-more _ _ (length ps) i l (earlier-self ps i) (earlier-same ps (getD ps i 0) (i + 1) i refl (omega arith))
-    (λ k n. both-ways _ _ (earlier-more ps (getD ps i 0) i k) (λ h. other k n (earlier-joins ps (getD ps i 0) i k h)))
-  where
-    other : (k : ℕ) → (k ≡ i → ⊥) → (earlier ps (getD ps i 0) i k ≡ true) ⊎ ((k ≡ i) × (getD ps k 0 ≡ getD ps i 0))
-        → earlier ps (getD ps i 0) i k ≡ true
-    other k n (inl h) = h
-    other k n (inr h) = absurd (n (h .0))
+    (λ k n. both-ways _ _ (earlier-more ps (getD ps i 0) i k) (earlier-back ps (getD ps i 0) i k (λ y. n (y .0))))
 
 ready-room : (ps os steps places : List ℕ) (i n from : ℕ) → i < length ps → Ready ps os (getD ps i 0) i steps places n from → n < length ps
 ready-room ps os steps places i n from l w =
@@ -244,12 +239,8 @@ module _ (ps before : List ℕ) (p i n from : ℕ) (os steps places : List ℕ) 
         ready = ready-on ps os steps places p i p (i + 1) n from (λ k m. same k) (d .ready);
       }
     where
-      other : (k : ℕ) → (earlier ps p i k ≡ true) ⊎ ((k ≡ i) × (getD ps k 0 ≡ p)) → earlier ps p i k ≡ true
-      other k (inl h) = h
-      other k (inr (z, q)) = absurd (none (rw z at q))
-
       same : (k : ℕ) → earlier ps p i k ≡ earlier ps p (i + 1) k
-      same k = both-ways _ _ (earlier-more ps p i k) (λ h. other k (earlier-joins ps p i k h))
+      same k = both-ways _ _ (earlier-more ps p i k) (earlier-back ps p i k (λ y. none (rw (y .0) at (y .1))))
 
   pub dealing-end : length ps ≤ i → (os ≡ level ps p (length ps) 0 before) × Ready ps os p (length ps) steps places n from
   unfolding level
