@@ -20,11 +20,11 @@ use native.Mathlib.Omega.{arith}
 use Rattle.pinwheel.specs.Search.{last, total, largest, smallest}
 use Rattle.pinwheel.specs.Rule.{exponent, period, sum, limit, fits, base, periodsOf, earlier, taken, freeOffset, sends, offsetsOf}
 use Rattle.pinwheel.specs.Deal.{Outcome, accepted, refused, dealt}
-use Rattle.pinwheel.proofs.Laws.Search.{lt-or-le, first-passes, first-before}
+use Rattle.pinwheel.proofs.Laws.Search.{lt-or-le, first-passes, first-before, first-is}
 use Rattle.pinwheel.proofs.Laws.Periods.{powers, exponent-most, period-within, period-least}
 use Rattle.pinwheel.proofs.Laws.Bases.{smallest-met, base-fits, base-period, base-none, limit-common, sum-shares, tried-hit}
 use Rattle.pinwheel.proofs.Laws.Counting.{class-once}
-use Rattle.pinwheel.proofs.Laws.Offsets.{earlier-why, earlier-below, earlier-same, earlier-le, taken-why, taken-by, Settled, offsets-settled}
+use Rattle.pinwheel.proofs.Laws.Offsets.{earlier-why, earlier-below, earlier-same, earlier-le, taken-why, taken-by, Settled, offsets-settled, settled-unique}
 use Rattle.pinwheel.proofs.Laws.Checks.{Good, passed-good, refuse-crowded, accept}
 use Rattle.pinwheel.proofs.Laws.Room.{base-harmonic, base-roomy, periods-long, period-at}
 
@@ -112,6 +112,11 @@ Earlier ps i k = (getD ps k 0 < getD ps i 0) ⊎ ((getD ps k 0 ≡ getD ps i 0) 
 abbrev pub Free : List ℕ → List ℕ → ℕ → ℕ → Type 0
 Free ps os i o = (t k : ℕ) → k < length ps → Earlier ps i k → t % getD ps i 0 ≡ o → SendsIn ps os k t → ⊥
 
+-- Rule 5 in words: o is below child i's period and free, and no smaller offset is, since a child that goes before i sends in one of its slots.
+abbrev pub SmallestFree : List ℕ → List ℕ → ℕ → ℕ → Type 0
+SmallestFree ps os i o = (o < getD ps i 0) × Free ps os i o
+    × ((q : ℕ) → q < o → (t : ℕ) × (k : ℕ) × (k < length ps) × Earlier ps i k × (t % getD ps i 0 ≡ q) × SendsIn ps os k t)
+
 -- The tests say what the words say.
 pub sends-when : (p o t : ℕ) → (sends p o t ≡ true) ↔ (t % p ≡ o)
 unfolding sends
@@ -145,14 +150,16 @@ module _ (f : ℕ) (two : 2 ≤ f) (gaps : List ℕ) (h : 1 ≤ base f gaps) whe
       let d = base-harmonic f two gaps h .divides k i m l (earlier-le ps (getD ps i 0) i k (earlier-when ps i k .1 e)) in
       mod-mod-of-dvd (getD ps k 0) t (dvd-of-mod-eq-zero (getD ps k 0) (omega (arith, div-add-mod' (getD ps i 0) (getD ps k 0))))
 
+  -- So a child that sends in one slot of an offset of i sends in the slot that has the offset's own number.
+  own-slot : (os : List ℕ) (i o : ℕ) → i < length ps → (t k : ℕ) → k < length ps → Earlier ps i k → t % getD ps i 0 ≡ o → SendsIn ps os k t
+      → SendsIn ps os k o
+  own-slot os i o l t k n w s q = rw s at (same-class i k t l n w) ∙ q
+
   -- Rule 5. An offset is not taken, by the test, just when it is free.
   pub free-when : (os : List ℕ) (i o : ℕ) → i < length ps → o < getD ps i 0 → (taken ps os (getD ps i 0) i o ≡ false) ↔ Free ps os i o
   free-when os i o l m =
-      (λ e t k n w s q. false≢true (sym e ∙ taken-when ps os i o .1 (k, n, w, at t k n w s q)), λ free. go free (taken ps os (getD ps i 0) i o) refl)
+      (λ e t k n w s q. false≢true (sym e ∙ taken-when ps os i o .1 (k, n, w, own-slot os i o l t k n w s q)), λ free. go free (taken ps os (getD ps i 0) i o) refl)
     where
-      at : (t k : ℕ) → k < length ps → Earlier ps i k → t % getD ps i 0 ≡ o → SendsIn ps os k t → SendsIn ps os k o
-      at t k n w s q = rw s at (same-class i k t l n w) ∙ q
-
       hit : Free ps os i o → (k : ℕ) × (k < length ps) × Earlier ps i k × SendsIn ps os k o → ⊥
       hit free (k, n, w, q) = free o k n w (mod-eq-of-lt m) q
 
@@ -182,9 +189,8 @@ module _ (f : ℕ) (two : 2 ≤ f) (gaps : List ℕ) (h : 1 ≤ base f gaps) whe
   offset-at : (i : ℕ) → i < length ps → (getD os i 0 ≡ freeOffset ps os (getD ps i 0) i) × (getD os i 0 < getD ps i 0)
   offset-at i l = let e = settled .each i l in (e, rw e (base-roomy f two gaps h .room os i l))
 
-  -- Rule 5. Each offset dealt is free, and no smaller one is: some child that goes before sends in a slot of it.
-  pub offset-smallest : (i : ℕ) → i < length ps → (getD os i 0 < getD ps i 0) × Free ps os i (getD os i 0)
-      × ((o : ℕ) → o < getD os i 0 → (t : ℕ) × (k : ℕ) × (k < length ps) × Earlier ps i k × (t % getD ps i 0 ≡ o) × SendsIn ps os k t)
+  -- Rule 5. Each offset dealt is the smallest free one.
+  pub offset-smallest : (i : ℕ) → i < length ps → SmallestFree ps os i (getD os i 0)
   unfolding freeOffset
   offset-smallest i l = (below, free, smaller)
     where
@@ -200,13 +206,28 @@ module _ (f : ℕ) (two : 2 ≤ f) (gaps : List ℕ) (h : 1 ≤ base f gaps) whe
       free : Free ps os i (getD os i 0)
       free = free-when os i (getD os i 0) l below .0 (rw e (not-true _ (first-passes not-taken (getD ps i 0) 0 (omega (arith, below, e)))))
 
+      at : (o : ℕ) → o < getD os i 0 → (k : ℕ) × (k < length ps) × Earlier ps i k × SendsIn ps os k o
+          → (t : ℕ) × (k : ℕ) × (k < length ps) × Earlier ps i k × (t % getD ps i 0 ≡ o) × SendsIn ps os k t
+      at o m (k, n, w, s) = (o, k, n, w, mod-eq-of-lt (omega (arith, below)), s)
+
       smaller : (o : ℕ) → o < getD os i 0 → (t : ℕ) × (k : ℕ) × (k < length ps) × Earlier ps i k × (t % getD ps i 0 ≡ o) × SendsIn ps os k t
-      smaller o m =
-          at (taken-when ps os i o .0 (not-false _ (first-before not-taken (getD ps i 0) 0 o (omega arith) (rw e at m))))
-        where
-          at : (k : ℕ) × (k < length ps) × Earlier ps i k × SendsIn ps os k o
-              → (t : ℕ) × (k : ℕ) × (k < length ps) × Earlier ps i k × (t % getD ps i 0 ≡ o) × SendsIn ps os k t
-          at (k, n, w, s) = (o, k, n, w, mod-eq-of-lt (omega (arith, below)), s)
+      smaller o m = at o m (taken-when ps os i o .0 (not-false _ (first-before not-taken (getD ps i 0) 0 o (omega arith) (rw e at m))))
+
+  -- Rule 5. No other list of offsets has that: the rule in words leaves no choice.
+  pub offsets-unique : (us : List ℕ) → length us ≡ length ps → ((i : ℕ) → i < length ps → SmallestFree ps us i (getD us i 0)) → us ≡ os
+  unfolding freeOffset
+  offsets-unique us long each =
+      settled-unique ps (base-harmonic f two gaps h .positive) us os (record { long = long; each = λ i l. sym (is i l) }) settled
+    where
+      met : (i q : ℕ) → i < length ps → (t : ℕ) × (k : ℕ) × (k < length ps) × Earlier ps i k × (t % getD ps i 0 ≡ q) × SendsIn ps us k t
+          → not (taken ps us (getD ps i 0) i q) ≡ false
+      met i q l (t, k, m, w, s, z) = ap not (taken-when ps us i q .1 (k, m, w, own-slot us i q l t k m w s z))
+
+      is : (i : ℕ) → i < length ps → freeOffset ps us (getD ps i 0) i ≡ getD us i 0
+      is i l =
+          let w = each i l in
+          first-is (λ o. not (taken ps us (getD ps i 0) i o)) (getD ps i 0) 0 (getD us i 0) (omega arith) (omega (arith, w .0))
+          (ap not (free-when us i (getD us i 0) l (w .0) .1 (w .1))) (λ q m. met i q l (w .2 q m))
 
   -- Rules 5 and 6. Two children never send in the same slot.
   pub never-together : (i k t : ℕ) → i < length ps → k < length ps → (i ≡ k → ⊥) → SendsIn ps os i t → SendsIn ps os k t → ⊥

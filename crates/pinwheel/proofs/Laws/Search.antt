@@ -102,6 +102,23 @@ module _ (p : ℕ → Bool) where
       go (inl l) = absurd (false≢true (sym (first-before r c k lo l) ∙ e))
       go (inr l) = l
 
+  first-from : (r c : ℕ) → c ≤ first p r c
+  unfolding first
+  first-from zero c = omega arith
+  first-from (suc r) c = go (p c) (first-from r (c + 1))
+    where
+      go : (t : Bool) → c + 1 ≤ first p r (c + 1) → c ≤ cond t c (first p r (c + 1))
+      go true ih = omega arith
+      go false ih = omega arith
+
+  -- So it finds the one below which nothing has the test.
+  pub first-is : (r c k : ℕ) → c ≤ k → k < c + r → p k ≡ true → ((m : ℕ) → m < k → p m ≡ false) → first p r c ≡ k
+  first-is r c k lo hi e none = go (eq-or-lt-of-le (first-within r c k lo e))
+    where
+      go : (first p r c ≡ k) ⊎ (first p r c < k) → first p r c ≡ k
+      go (inl q) = q
+      go (inr l) = absurd (false≢true (sym (none (first p r c) l) ∙ first-passes r c (omega arith)))
+
   -- A search may start at c where nothing below has the test.
   pub first-skip : (n c : ℕ) → c ≤ n → ((k : ℕ) → k < c → p k ≡ false) → first p n 0 ≡ firstIn p n c
   first-skip n zero h none = let e : n - 0 ≡ n = omega arith in rw e

@@ -1,6 +1,6 @@
 -- `periods::period_of` multiplies the base while the product stays within the gap: it is always the base times a power of the factor.
 use borrow.Author.Needs.{needs}
-use Prim.Native.Nat.{_*_, _-_, _≤_, _<_}
+use Prim.Native.Nat.{_*_, _-_, _/_, _≤_, _<_}
 use native.Mathlib.Nat.{le-div-iff-mul-le, div-lt-iff-lt-mul}
 use native.Mathlib.Omega.{arith}
 use Rattle.pinwheel.proofs.Laws.Periods.{Grown, grown-start, grown-more, grown-end, grown-doubles}
@@ -15,7 +15,11 @@ abbrev μ-loop : tie.MeasureT-loop
 
 -- In a turn the next product is still within the gap.
 turn : (c : tie.In-loop Inv-loop μ-loop) → c .before .loop .p * c .before .before .args .factor ≤ c .before .before .args .gap
-turn c = let pos : 0 < c .before .before .args .factor = search needs in le-div-iff-mul-le pos .0 (c .loop-test .taken)
+turn c =
+    let start = c .before .before .args in
+    let pos : 0 < start .factor = search needs in
+    let within : c .before .loop .p ≤ start .gap / start .factor = omega arith in
+    le-div-iff-mul-le pos .0 within
 
 div-top : tie.Need-div-top Inv-loop μ-loop
 div-top c = search needs
