@@ -1,4 +1,5 @@
 -- What the definitions of the slot rule mean, in the order of 01's rules and for every factor from 2 up. The modules named here hold the lemmas.
+pub mod Words
 pub mod Search
 pub mod Lists
 pub mod Periods
@@ -20,21 +21,14 @@ use native.Mathlib.Omega.{arith}
 use Rattle.pinwheel.specs.Search.{last, total, largest, smallest}
 use Rattle.pinwheel.specs.Rule.{exponent, period, sum, limit, fits, base, periodsOf, earlier, taken, freeOffset, sends, offsetsOf}
 use Rattle.pinwheel.specs.Deal.{Outcome, accepted, refused, dealt}
+use Rattle.pinwheel.proofs.Laws.Words.{Good, LargestFit, NoneFits, SendsIn, Once, Earlier, Meets, Free, SmallestFree, Taker}
 use Rattle.pinwheel.proofs.Laws.Search.{lt-or-le, first-passes, first-before, first-is}
 use Rattle.pinwheel.proofs.Laws.Periods.{powers, exponent-most, period-within, period-least}
 use Rattle.pinwheel.proofs.Laws.Bases.{smallest-met, base-fits, base-period, base-none, limit-common, sum-shares, tried-hit}
 use Rattle.pinwheel.proofs.Laws.Counting.{class-once}
 use Rattle.pinwheel.proofs.Laws.Offsets.{earlier-why, earlier-below, earlier-same, earlier-le, taken-why, taken-by, Settled, offsets-settled, settled-unique}
-use Rattle.pinwheel.proofs.Laws.Checks.{Good, passed-good, refuse-crowded, accept}
+use Rattle.pinwheel.proofs.Laws.Checks.{passed-good, refuse-crowded, accept}
 use Rattle.pinwheel.proofs.Laws.Room.{base-harmonic, base-roomy, periods-long, period-at}
-
--- Rules 1 and 4 in words: b is a base from 1 to the smallest gap that fits, and no larger one of them does.
-abbrev pub LargestFit : ℕ → List ℕ → ℕ → Type 0
-LargestFit f gaps b = (1 ≤ b) × (b ≤ smallest gaps) × (fits f b gaps ≡ true) × ((k : ℕ) → b < k → k ≤ smallest gaps → fits f k gaps ≡ false)
-
--- None of them fits (01: crowded).
-abbrev pub NoneFits : ℕ → List ℕ → Type 0
-NoneFits f gaps = (b : ℕ) → 1 ≤ b → b ≤ smallest gaps → fits f b gaps ≡ false
 
 module _ (f : ℕ) (two : 2 ≤ f) where
   -- Rule 2. The period is the largest base × factor^j not above the gap.
@@ -75,8 +69,7 @@ module _ (f : ℕ) (two : 2 ≤ f) where
       fit : dealt f gaps offsets periods .0 ≡ accepted b → (0 < base f gaps) ⊎ (base f gaps ≤ 0) → LargestFit f gaps b
       fit e (inl l) =
           let q : b ≡ base f gaps = cc (outcome-base gaps offsets periods (good e) l) in
-          let w = base-fits f two gaps l in
-          rw q (l, w .0, w .1, w .2)
+          rw q (base-fits f two gaps l)
       fit e (inr m) = absurd (apart 11 0 e (outcome-none gaps offsets periods (good e) (omega arith)))
 
       back : Good gaps offsets periods × LargestFit f gaps b → dealt f gaps offsets periods .0 ≡ accepted b
@@ -100,23 +93,6 @@ module _ (f : ℕ) (two : 2 ≤ f) where
       none e (inl l) = absurd (let z : _≡_ {A = ℕ} 0 1 = cc (outcome-base gaps offsets periods (good e) l) in omega arith)
       none e (inr m) = base-none f two gaps .0 (omega arith)
 
--- Rule 6 in words: child k of these lists sends in slot t.
-abbrev pub SendsIn : List ℕ → List ℕ → ℕ → ℕ → Type 0
-SendsIn ps os k t = t % getD ps k 0 ≡ getD os k 0
-
--- The dealing order of rule 5 in words: child k goes before child i.
-abbrev pub Earlier : List ℕ → ℕ → ℕ → Type 0
-Earlier ps i k = (getD ps k 0 < getD ps i 0) ⊎ ((getD ps k 0 ≡ getD ps i 0) × (k < i))
-
--- "Free" of rule 5 in words: with offset o child i and a child that goes before it send together in no slot at all.
-abbrev pub Free : List ℕ → List ℕ → ℕ → ℕ → Type 0
-Free ps os i o = (t k : ℕ) → k < length ps → Earlier ps i k → t % getD ps i 0 ≡ o → SendsIn ps os k t → ⊥
-
--- Rule 5 in words: o is below child i's period and free, and no smaller offset is, since a child that goes before i sends in one of its slots.
-abbrev pub SmallestFree : List ℕ → List ℕ → ℕ → ℕ → Type 0
-SmallestFree ps os i o = (o < getD ps i 0) × Free ps os i o
-    × ((q : ℕ) → q < o → (t : ℕ) × (k : ℕ) × (k < length ps) × Earlier ps i k × (t % getD ps i 0 ≡ q) × SendsIn ps os k t)
-
 -- The tests say what the words say.
 pub sends-when : (p o t : ℕ) → (sends p o t ≡ true) ↔ (t % p ≡ o)
 unfolding sends
@@ -133,7 +109,7 @@ pub taken-when : (ps os : List ℕ) (i t : ℕ)
     → (taken ps os (getD ps i 0) i t ≡ true) ↔ ((k : ℕ) × (k < length ps) × Earlier ps i k × SendsIn ps os k t)
 taken-when ps os i t = (λ e. out (taken-why ps os (getD ps i 0) i t e), into)
   where
-    out : (k : ℕ) × (k < length ps) × (earlier ps (getD ps i 0) i k ≡ true) × (sends (getD ps k 0) (getD os k 0) t ≡ true)
+    out : Taker ps os (getD ps i 0) i t
         → (k : ℕ) × (k < length ps) × Earlier ps i k × SendsIn ps os k t
     out (k, l, e, s) = (k, l, earlier-when ps i k .0 e, sends-when _ _ _ .0 s)
 
@@ -207,10 +183,10 @@ module _ (f : ℕ) (two : 2 ≤ f) (gaps : List ℕ) (h : 1 ≤ base f gaps) whe
       free = free-when os i (getD os i 0) l below .0 (rw e (not-true _ (first-passes not-taken (getD ps i 0) 0 (omega (arith, below, e)))))
 
       at : (o : ℕ) → o < getD os i 0 → (k : ℕ) × (k < length ps) × Earlier ps i k × SendsIn ps os k o
-          → (t : ℕ) × (k : ℕ) × (k < length ps) × Earlier ps i k × (t % getD ps i 0 ≡ o) × SendsIn ps os k t
+          → Meets ps os i o
       at o m (k, n, w, s) = (o, k, n, w, mod-eq-of-lt (omega (arith, below)), s)
 
-      smaller : (o : ℕ) → o < getD os i 0 → (t : ℕ) × (k : ℕ) × (k < length ps) × Earlier ps i k × (t % getD ps i 0 ≡ o) × SendsIn ps os k t
+      smaller : (o : ℕ) → o < getD os i 0 → Meets ps os i o
       smaller o m = at o m (taken-when ps os i o .0 (not-false _ (first-before not-taken (getD ps i 0) 0 o (omega arith) (rw e at m))))
 
   -- Rule 5. No other list of offsets has that: the rule in words leaves no choice.
@@ -219,7 +195,7 @@ module _ (f : ℕ) (two : 2 ≤ f) (gaps : List ℕ) (h : 1 ≤ base f gaps) whe
   offsets-unique us long each =
       settled-unique ps (base-harmonic f two gaps h .positive) us os (record { long = long; each = λ i l. sym (is i l) }) settled
     where
-      met : (i q : ℕ) → i < length ps → (t : ℕ) × (k : ℕ) × (k < length ps) × Earlier ps i k × (t % getD ps i 0 ≡ q) × SendsIn ps us k t
+      met : (i q : ℕ) → i < length ps → Meets ps us i q
           → not (taken ps us (getD ps i 0) i q) ≡ false
       met i q l (t, k, m, w, s, z) = ap not (taken-when ps us i q .1 (k, m, w, own-slot us i q l t k m w s z))
 
@@ -247,8 +223,7 @@ module _ (f : ℕ) (two : 2 ≤ f) (gaps : List ℕ) (h : 1 ≤ base f gaps) whe
       go (inr a) (inr b) (inr c) = later-k (inr (omega arith, omega arith))
 
   -- Rule 6. In every run of `period` slots, from any slot s on, a child sends exactly once.
-  pub once-a-period : (i s : ℕ) → i < length ps
-      → (t : ℕ) × (s ≤ t) × (t < s + getD ps i 0) × SendsIn ps os i t × ((u : ℕ) → s ≤ u → u < s + getD ps i 0 → SendsIn ps os i u → u ≡ t)
+  pub once-a-period : (i s : ℕ) → i < length ps → Once (getD ps i 0) (getD os i 0) s
   once-a-period i s l = class-once (getD ps i 0) (getD os i 0) s (offset-at i l .1)
 
   -- The base is also the smallest period dealt.

@@ -1,11 +1,24 @@
 -- What the inner functions ask of their callers and tell them. The public promise cites none of this.
-use Prim.Native.Nat.{ℕ, _<_, _≤_}
+use Prim.Native.Nat.{ℕ, zero, suc, _+_, _-_, _<_, _≤_}
 use mathlib.Core.Path.{_≡_}
-use mathlib.Core.Bool.{Bool, true}
+use mathlib.Core.Bool.{Bool, true, false}
 use mathlib.Core.List.{List}
 use lib.ListN.{length, getD}
-use Rattle.pinwheel.specs.Search.{any, count}
+use Rattle.pinwheel.specs.Search.{first, any}
 use Rattle.pinwheel.specs.Rule.{sends, earlier, taken, freeOffset}
+
+-- The smallest k with p k from c on and below n, and n where there is none; c where c is not below n.
+abbrev pub firstIn : (ℕ → Bool) → ℕ → ℕ → ℕ
+firstIn p n c = first p (n - c) c
+
+-- How many of the numbers below n have the test.
+abbrev pub bit : Bool → ℕ
+bit true = 1
+bit false = 0
+
+unfoldable pub count : (ℕ → Bool) → ℕ → ℕ
+count p zero = 0
+count p (suc n) = bit (p n) + count p n
 
 -- A factor from 2 up, and a base that rule 1 allows for these gaps.
 pub record Allowed (f b : ℕ) (gaps : List ℕ) : Type 0 where

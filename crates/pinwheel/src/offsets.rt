@@ -3,9 +3,8 @@ ghost use mathlib.Core.Path.{_≡_};
 ghost use mathlib.Core.Bool.{not};
 ghost use Prim.Native.Nat.{ℕ, _≤_, _<_, min};
 ghost use lib.ListN.{length, getD};
-ghost use Rattle.pinwheel.specs.Search.{firstIn};
 ghost use Rattle.pinwheel.specs.Rule.{level, offsetsFor};
-ghost use Rattle.pinwheel.specs.Inner.{Roomy, someSends, Ready, Next};
+ghost use Rattle.pinwheel.specs.Inner.{firstIn, Roomy, someSends, Ready, Next};
 
 // What a pass over the children leaves: how many have been dealt, and the first offset that the next one can have.
 struct Progress {

@@ -11,6 +11,7 @@ use native.Mathlib.Nat.{min-le-left, min-le-right, min-eq-left, min-eq-right, le
 use native.Mathlib.Omega.{arith}
 use Rattle.pinwheel.specs.Search.{last, total, largest, least, smallest}
 use Rattle.pinwheel.specs.Rule.{exponent, period, greatest, sum, limit, fits, base}
+use Rattle.pinwheel.proofs.Laws.Words.{LargestFit, NoneFits}
 use Rattle.pinwheel.proofs.Laws.Search.{last-is, lt-or-le, last-le, last-passes, last-above}
 use Rattle.pinwheel.proofs.Laws.Periods.{below-multiple, exponent-is, exponent-mono, period-mono, period-divides, period-up, power-split}
 
@@ -126,10 +127,10 @@ module _ (f : ℕ) (two : 2 ≤ f) where
       shares = map-agrees _ _ gaps (λ i l. rw (period-up f two b (getD gaps i 0) one (omega (arith, smallest-within gaps i l))))
 
   -- The base fits, and no larger one up to the smallest gap does; it is 0 just when no base from 1 to the smallest gap fits.
-  pub base-fits : (gaps : List ℕ) → 1 ≤ base f gaps → (base f gaps ≤ smallest gaps) × (fits f (base f gaps) gaps ≡ true)
-      × ((b : ℕ) → base f gaps < b → b ≤ smallest gaps → fits f b gaps ≡ false)
+  pub base-fits : (gaps : List ℕ) → 1 ≤ base f gaps → LargestFit f gaps (base f gaps)
   unfolding base
   base-fits gaps h = (
+    h,
     last-le (λ b. fits f b gaps) (smallest gaps),
     last-passes (λ b. fits f b gaps) (smallest gaps) h,
     last-above (λ b. fits f b gaps) (smallest gaps),
@@ -137,12 +138,12 @@ module _ (f : ℕ) (two : 2 ≤ f) where
 
   -- What is found fits, so a base that does not was not found.
   unfit : (gaps : List ℕ) → (1 ≤ base f gaps → fits f (base f gaps) gaps ≡ false) → base f gaps ≡ 0
-  unfit gaps e = elim (lt-or-le 0 (base f gaps)) [ inl l ↦ absurd (false≢true (sym (e l) ∙ base-fits gaps l .1)) | inr m ↦ omega arith ]
+  unfit gaps e = elim (lt-or-le 0 (base f gaps)) [ inl l ↦ absurd (false≢true (sym (e l) ∙ base-fits gaps l .2)) | inr m ↦ omega arith ]
 
-  pub base-none : (gaps : List ℕ) → (base f gaps ≡ 0) ↔ ((b : ℕ) → 1 ≤ b → b ≤ smallest gaps → fits f b gaps ≡ false)
+  pub base-none : (gaps : List ℕ) → (base f gaps ≡ 0) ↔ NoneFits f gaps
   unfolding base
   base-none gaps =
-      (λ z b lo hi. last-above (λ b. fits f b gaps) (smallest gaps) b (omega arith) hi, λ none. unfit gaps (λ l. none (base f gaps) l (base-fits gaps l .0)))
+      (λ z b lo hi. last-above (λ b. fits f b gaps) (smallest gaps) b (omega arith) hi, λ none. unfit gaps (λ l. none (base f gaps) l (base-fits gaps l .1)))
 
   -- A base that could be multiplied within the smallest gap would not be the largest that fits.
   base-top : (gaps : List ℕ) → 1 ≤ base f gaps → smallest gaps < base f gaps * f
@@ -150,8 +151,8 @@ module _ (f : ℕ) (two : 2 ≤ f) where
     where
       go : (smallest gaps < base f gaps * f) ⊎ (base f gaps * f ≤ smallest gaps) → smallest gaps < base f gaps * f
       go (inl l) = l
-      go (inr m) = absurd (false≢true (sym (base-fits gaps h .2 (base f gaps * f) (omega (arith, mul-le-mul-left (base f gaps) two)) m)
-          ∙ sym (fits-up (base f gaps) gaps h m) ∙ base-fits gaps h .1))
+      go (inr m) = absurd (false≢true (sym (base-fits gaps h .3 (base f gaps * f) (omega (arith, mul-le-mul-left (base f gaps) two)) m)
+          ∙ sym (fits-up (base f gaps) gaps h m) ∙ base-fits gaps h .2))
 
   -- So the smallest gap has the base itself for its period.
   pub base-period : (gaps : List ℕ) → 1 ≤ base f gaps → period f (base f gaps) (smallest gaps) ≡ base f gaps
@@ -159,11 +160,11 @@ module _ (f : ℕ) (two : 2 ≤ f) where
   base-period gaps h = rw (none, pow-zero, mul-one)
     where
       none : exponent f (base f gaps) (smallest gaps) ≡ 0
-      none = exponent-is f two (base f gaps) (smallest gaps) 0 h (rw (pow-zero, mul-one) (base-fits gaps h .0)) (rw (pow-suc, pow-zero, one-mul) (base-top gaps h))
+      none = exponent-is f two (base f gaps) (smallest gaps) 0 h (rw (pow-zero, mul-one) (base-fits gaps h .1)) (rw (pow-suc, pow-zero, one-mul) (base-top gaps h))
 
   -- Where no base above the smallest gap / factor fits, none fits: each other one gives the periods of a larger one.
   pub none-below : (gaps : List ℕ) → ((b : ℕ) → smallest gaps / f < b → b ≤ smallest gaps → fits f b gaps ≡ false) → base f gaps ≡ 0
-  none-below gaps none = unfit gaps (λ l. none (base f gaps) (div-lt-iff-lt-mul (omega arith) .1 (base-top gaps l)) (base-fits gaps l .0))
+  none-below gaps none = unfit gaps (λ l. none (base f gaps) (div-lt-iff-lt-mul (omega arith) .1 (base-top gaps l)) (base-fits gaps l .1))
 
   -- The test on the two figures.
   pub fits-yes : (b : ℕ) (gaps : List ℕ) (n top : ℕ) → n ≡ sum f b gaps → top ≡ limit f b gaps → n ≤ top → fits f b gaps ≡ true

@@ -11,26 +11,19 @@ use native.Mathlib.Decide.{ℕ-discrete}
 use native.Mathlib.Omega.{arith}
 use Rattle.pinwheel.specs.Rule.{base, periodsOf, offsetsOf}
 use Rattle.pinwheel.specs.Deal.{Outcome, accepted, refused, badGap, firstBad, dealt}
+use Rattle.pinwheel.proofs.Laws.Words.{InLimits, Good}
 use Rattle.pinwheel.proofs.Laws.Search.{lt-or-le, first-before, first-passes}
 
--- What 1 and 5 ask of the lists, in words.
-pub record Good (gaps offsets periods : List ℕ) : Type 0 where
-  pub offsets-long : length offsets ≡ length gaps
-  pub periods-long : length periods ≡ length gaps
-  pub some : 1 ≤ length gaps
-  pub few : length gaps ≤ 63
-  pub limits : (i : ℕ) → i < length gaps → (1 ≤ getD gaps i 0) × (getD gaps i 0 ≤ 1024)
-
 -- A gap before the first bad one is within its limits, and the first bad one is not.
-pub gap-limits : (gaps : List ℕ) (i : ℕ) → i < firstBad gaps → (1 ≤ getD gaps i 0) × (getD gaps i 0 ≤ 1024)
+pub gap-limits : (gaps : List ℕ) (i : ℕ) → i < firstBad gaps → InLimits (getD gaps i 0)
 unfolding firstBad badGap
 gap-limits gaps i l = go (eqb (getD gaps i 0) 0) refl (first-before (badGap gaps) (length gaps) 0 i (omega arith) l)
   where
-    go : (t : Bool) → eqb (getD gaps i 0) 0 ≡ t → t || ltb 1024 (getD gaps i 0) ≡ false → (1 ≤ getD gaps i 0) × (getD gaps i 0 ≤ 1024)
+    go : (t : Bool) → eqb (getD gaps i 0) 0 ≡ t → t || ltb 1024 (getD gaps i 0) ≡ false → InLimits (getD gaps i 0)
     go true e q = absurd (false≢true (sym q))
     go false e q = let n : getD gaps i 0 ≡ 0 → ⊥ = eqb-false _ _ e in (omega arith, ltb-false _ _ q)
 
-pub bad-limits : (gaps : List ℕ) → firstBad gaps < length gaps → (1 ≤ getD gaps (firstBad gaps) 0) × (getD gaps (firstBad gaps) 0 ≤ 1024) → ⊥
+pub bad-limits : (gaps : List ℕ) → firstBad gaps < length gaps → InLimits (getD gaps (firstBad gaps) 0) → ⊥
 unfolding firstBad badGap
 bad-limits gaps l (a, b) =
     let n : getD gaps (firstBad gaps) 0 ≡ 0 → ⊥ = omega arith in
@@ -62,7 +55,7 @@ module _ (f : ℕ) (gaps offsets periods : List ℕ) where
   unfolding dealt
   refuse-gap e q n m bad b l = rw b (simp (eq-eqb _ _ e, eq-eqb _ _ q, ne-eqb _ _ n, le-ltb _ _ m, lt-ltb _ _ (rw b at l)))
 
-  no-bad : ((i : ℕ) → i < length gaps → (1 ≤ getD gaps i 0) × (getD gaps i 0 ≤ 1024))
+  no-bad : ((i : ℕ) → i < length gaps → InLimits (getD gaps i 0))
       → (firstBad gaps < length gaps) ⊎ (length gaps ≤ firstBad gaps)
       → length gaps ≤ firstBad gaps
   no-bad each (inl l) = absurd (bad-limits gaps l (each (firstBad gaps) l))

@@ -8,7 +8,9 @@ use borrow.Author.Tests.{eqb-true}
 use native.Mathlib.Nat.{add-zero, add-suc, zero-mul, suc-mul, mul-zero, mul-add, mul-add-mod-self-right}
 use native.Mathlib.Nat.{mul-le-mul-right, mod-lt, mod-eq-of-lt, div-add-mod', eq-or-lt-of-le}
 use native.Mathlib.Omega.{arith}
-use Rattle.pinwheel.specs.Search.{any, bit, count}
+use Rattle.pinwheel.specs.Search.{any}
+use Rattle.pinwheel.specs.Inner.{bit, count}
+use Rattle.pinwheel.proofs.Laws.Words.{Once}
 use Rattle.pinwheel.proofs.Laws.Search.{lt-or-le}
 
 -- h k + h (k + 1) + .. over r indices.
@@ -149,10 +151,7 @@ class-apart p u t e l = go (lt-or-le (u / p) (t / p))
     go (inl m) = omega (arith, mul-le-mul-right p m, suc-mul (u / p) p, div-add-mod' u p, div-add-mod' t p)
     go (inr m) = absurd (omega (arith, mul-le-mul-right p m, div-add-mod' u p, div-add-mod' t p))
 
--- Of the p numbers from s on, exactly one is of the class of o.
-abbrev pub Once : ℕ → ℕ → ℕ → Type 0
-Once p o s = (t : ℕ) × (s ≤ t) × (t < s + p) × (t % p ≡ o) × ((u : ℕ) → s ≤ u → u < s + p → u % p ≡ o → u ≡ t)
-
+-- So of p numbers in a row exactly one is of a given class.
 pub class-once : (p o s : ℕ) → o < p → Once p o s
 class-once p o s l = go (lt-or-le o (s % p))
   where

@@ -13,6 +13,7 @@ use native.Mathlib.Nat.{eq-or-lt-of-le}
 use native.Mathlib.Omega.{arith}
 use Rattle.pinwheel.specs.Search.{largest}
 use Rattle.pinwheel.specs.Rule.{sends, earlier, taken, freeOffset, turn, level, levels, offsetsFor}
+use Rattle.pinwheel.proofs.Laws.Words.{Positive, Precedes, Earlier, Taker}
 use Rattle.pinwheel.proofs.Laws.Search.{lt-or-le, any-some, any-at, any-ext, first-ext}
 use Rattle.pinwheel.proofs.Laws.Bases.{largest-above}
 
@@ -23,7 +24,7 @@ both false b e = absurd (false≢true e)
 
 module _ (ps : List ℕ) (p i k : ℕ) where
   -- The dealing order in words.
-  pub earlier-why : earlier ps p i k ≡ true → (getD ps k 0 < p) ⊎ ((getD ps k 0 ≡ p) × (k < i))
+  pub earlier-why : earlier ps p i k ≡ true → Precedes ps p i k
   unfolding earlier
   earlier-why e =
       elim (lt-or-le (getD ps k 0) p)
@@ -45,7 +46,7 @@ module _ (ps : List ℕ) (p i k : ℕ) where
   pub earlier-more : earlier ps p i k ≡ true → earlier ps p (i + 1) k ≡ true
   earlier-more e = go (earlier-why ps p i k e)
     where
-      go : (getD ps k 0 < p) ⊎ ((getD ps k 0 ≡ p) × (k < i)) → earlier ps p (i + 1) k ≡ true
+      go : Precedes ps p i k → earlier ps p (i + 1) k ≡ true
       go (inl l) = earlier-below ps p (i + 1) k l
       go (inr (q, l)) = earlier-same ps p (i + 1) k q (omega arith)
 
@@ -56,7 +57,7 @@ module _ (ps : List ℕ) (p i k : ℕ) where
       at q (inl s) = inr (omega arith, q)
       at q (inr l) = inl (earlier-same ps p i k q (omega arith))
 
-      go : (getD ps k 0 < p) ⊎ ((getD ps k 0 ≡ p) × (k < i + 1)) → (earlier ps p i k ≡ true) ⊎ ((k ≡ i) × (getD ps k 0 ≡ p))
+      go : Precedes ps p (i + 1) k → (earlier ps p i k ≡ true) ⊎ ((k ≡ i) × (getD ps k 0 ≡ p))
       go (inl l) = inl (earlier-below ps p i k l)
       go (inr (q, l)) = at q (eq-or-lt-of-le l)
 
@@ -71,8 +72,8 @@ earlier-self ps i = simp (le-ltb (getD ps i 0) (getD ps i 0) (omega arith), le-l
 earlier-not : (ps : List ℕ) (i k : ℕ) → earlier ps (getD ps i 0) i k ≡ true → earlier ps (getD ps k 0) k i ≡ true → ⊥
 earlier-not ps i k w h = go (earlier-why ps (getD ps i 0) i k w) (earlier-why ps (getD ps k 0) k i h)
   where
-    go : (getD ps k 0 < getD ps i 0) ⊎ ((getD ps k 0 ≡ getD ps i 0) × (k < i))
-        → (getD ps i 0 < getD ps k 0) ⊎ ((getD ps i 0 ≡ getD ps k 0) × (i < k)) → ⊥
+    go : Earlier ps i k
+        → Earlier ps k i → ⊥
     go (inl a) (inl b) = omega arith
     go (inl a) (inr b) = omega arith
     go (inr a) (inl b) = omega arith
@@ -80,12 +81,12 @@ earlier-not ps i k w h = go (earlier-why ps (getD ps i 0) i k w) (earlier-why ps
 
 -- What is taken, in words: a child that goes before sends in that slot.
 module _ (ps os : List ℕ) (p i t : ℕ) where
-  pub taken-why : taken ps os p i t ≡ true → (k : ℕ) × (k < length ps) × (earlier ps p i k ≡ true) × (sends (getD ps k 0) (getD os k 0) t ≡ true)
+  pub taken-why : taken ps os p i t ≡ true → Taker ps os p i t
   unfolding taken
   taken-why e = go (any-some _ (length ps) 0 e)
     where
       go : (k : ℕ) × (0 ≤ k) × (k < 0 + length ps) × (earlier ps p i k && sends (getD ps k 0) (getD os k 0) t ≡ true)
-          → (k : ℕ) × (k < length ps) × (earlier ps p i k ≡ true) × (sends (getD ps k 0) (getD os k 0) t ≡ true)
+          → Taker ps os p i t
       go (k, lo, hi, q) = let w = both _ _ q in (k, omega arith, w .0, w .1)
 
   pub taken-by : (k : ℕ) → k < length ps → earlier ps p i k ≡ true → sends (getD ps k 0) (getD os k 0) t ≡ true → taken ps os p i t ≡ true
@@ -127,10 +128,10 @@ module _ (ps : List ℕ) (P : ℕ → ℕ → List ℕ → Type 0)
 pub all-earlier : (ps : List ℕ) (k : ℕ) → k < length ps → earlier ps (1 + largest ps) 0 k ≡ true
 all-earlier ps k l = let h = largest-above ps k l in earlier-below ps (1 + largest ps) 0 k (omega arith)
 
-none-earlier : (ps : List ℕ) → ((k : ℕ) → k < length ps → 1 ≤ getD ps k 0) → (k : ℕ) → k < length ps → earlier ps 1 0 k ≡ true → ⊥
+none-earlier : (ps : List ℕ) → Positive ps → (k : ℕ) → k < length ps → earlier ps 1 0 k ≡ true → ⊥
 none-earlier ps positive k l e = go (earlier-why ps 1 0 k e) (positive k l)
   where
-    go : (getD ps k 0 < 1) ⊎ ((getD ps k 0 ≡ 1) × (k < 0)) → 1 ≤ getD ps k 0 → ⊥
+    go : Precedes ps 1 0 k → 1 ≤ getD ps k 0 → ⊥
     go (inl a) b = omega arith
     go (inr a) b = omega arith
 
@@ -141,7 +142,7 @@ earlier-rise ps p k l e = go (earlier-why ps (p + 1) 0 k e)
     at (inl q) = earlier-same ps p (length ps) k (omega arith) l
     at (inr m) = earlier-below ps p (length ps) k (omega arith)
 
-    go : (getD ps k 0 < p + 1) ⊎ ((getD ps k 0 ≡ p + 1) × (k < 0)) → earlier ps p (length ps) k ≡ true
+    go : Precedes ps (p + 1) 0 k → earlier ps p (length ps) k ≡ true
     go (inl m) = at (eq-or-lt-of-le m)
     go (inr m) = absurd (omega arith)
 
@@ -187,7 +188,7 @@ module _ (ps : List ℕ) where
   sofar-rise p os s = record { long = s .long; each = λ k m w. s .each k m (earlier-rise ps p k m w) }
 
   -- So, from any list to start with, every child has the smallest free offset in the end.
-  pub levels-settled : ((k : ℕ) → k < length ps → 1 ≤ getD ps k 0) → (os : List ℕ) → length os ≡ length ps
+  pub levels-settled : Positive ps → (os : List ℕ) → length os ≡ length ps
       → Settled ps (levels ps (largest ps) 1 os)
   levels-settled positive os e = record { long = all .long; each = λ k m. all .each k m (all-earlier ps k m) }
     where
@@ -198,7 +199,7 @@ module _ (ps : List ℕ) where
       all = levels-keep ps (Sofar ps) sofar-turn sofar-rise (largest ps) 1 os start
 
   -- And only one list of offsets has that.
-  pub settled-unique : ((k : ℕ) → k < length ps → 1 ≤ getD ps k 0) → (os us : List ℕ) → Settled ps os → Settled ps us → os ≡ us
+  pub settled-unique : Positive ps → (os us : List ℕ) → Settled ps os → Settled ps us → os ≡ us
   settled-unique positive os us s v =
       ext-getD 0 os us (s .long ∙ sym (v .long)) (λ k m. let l : k < length ps = omega (arith, s .long) in all k l (all-earlier ps k l))
     where
@@ -219,10 +220,10 @@ module _ (ps : List ℕ) where
       all = levels-keep ps Agree step rise (largest ps) 1 os (λ k m w. absurd (none-earlier ps positive k m w))
 
   -- The offsets dealt are those, and the dealing may start from any list.
-  pub offsets-settled : ((k : ℕ) → k < length ps → 1 ≤ getD ps k 0) → Settled ps (offsetsFor ps)
+  pub offsets-settled : Positive ps → Settled ps (offsetsFor ps)
   unfolding offsetsFor
   offsets-settled positive = levels-settled positive (replicate (length ps) 0) (length-replicate (length ps) 0)
 
-  pub levels-offsets : ((k : ℕ) → k < length ps → 1 ≤ getD ps k 0) → (os : List ℕ) → length os ≡ length ps
+  pub levels-offsets : Positive ps → (os : List ℕ) → length os ≡ length ps
       → levels ps (largest ps) 1 os ≡ offsetsFor ps
   levels-offsets positive os e = settled-unique positive _ _ (levels-settled positive os e) (offsets-settled positive)

@@ -9,9 +9,10 @@ use borrow.Author.Tests.{leb-true}
 use native.Mathlib.Nat.{zero-add, add-zero, zero-mul, mul-zero, mul-assoc, mul-le-mul-left}
 use native.Mathlib.Nat.{lt-of-mul-lt-mul-left, lt-of-mul-lt-mul-right, div-eq-of-eq-mul-left}
 use native.Mathlib.Omega.{arith}
-use Rattle.pinwheel.specs.Search.{total, largest, count}
+use Rattle.pinwheel.specs.Search.{total, largest}
 use Rattle.pinwheel.specs.Rule.{period, sum, limit, fits, base, periodsOf, sends, earlier, taken, freeOffset}
-use Rattle.pinwheel.specs.Inner.{Roomy}
+use Rattle.pinwheel.specs.Inner.{count, Roomy}
+use Rattle.pinwheel.proofs.Laws.Words.{Positive}
 use Rattle.pinwheel.proofs.Laws.Search.{first-within}
 use Rattle.pinwheel.proofs.Laws.Lists.{getD-map}
 use Rattle.pinwheel.proofs.Laws.Periods.{period-least, period-divides}
@@ -21,7 +22,7 @@ use Rattle.pinwheel.proofs.Laws.Counting.{sumOf, count-room, count-none
 
 -- Periods of which the smaller divides the larger, and whose shares of a common multiple sum to at most that multiple.
 pub record Harmonic (ps : List ℕ) (common : ℕ) : Type 0 where
-  pub positive : (k : ℕ) → k < length ps → 1 ≤ getD ps k 0
+  pub positive : Positive ps
   pub divides : (k i : ℕ) → k < length ps → i < length ps → getD ps k 0 ≤ getD ps i 0 → getD ps i 0 / getD ps k 0 * getD ps k 0 ≡ getD ps i 0
   pub above : 1 ≤ common
   pub multiple : (k : ℕ) → k < length ps → common / getD ps k 0 * getD ps k 0 ≡ common
@@ -115,7 +116,7 @@ module _ (f : ℕ) (two : 2 ≤ f) (gaps : List ℕ) (h : 1 ≤ base f gaps) whe
 
   shares-fit : sum f (base f gaps) gaps ≤ limit f (base f gaps) gaps
   unfolding fits
-  shares-fit = leb-true _ _ (base-fits f two gaps h .1)
+  shares-fit = leb-true _ _ (base-fits f two gaps h .2)
 
   pub base-harmonic : Harmonic (periodsOf f gaps) (limit f (base f gaps) gaps)
   base-harmonic = record {

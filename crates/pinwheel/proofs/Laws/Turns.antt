@@ -10,9 +10,10 @@ use borrow.Author.Tests.{eq-eqb, ne-eqb, not-false}
 use native.Mathlib.Nat.{eq-or-lt-of-le, mod-eq-of-lt}
 use borrow.Author.Count.{below-more}
 use native.Mathlib.Omega.{arith}
-use Rattle.pinwheel.specs.Search.{any, firstIn, count, largest}
+use Rattle.pinwheel.specs.Search.{any, largest}
 use Rattle.pinwheel.specs.Rule.{sends, earlier, taken, freeOffset, turn, level, levels, offsetsFor}
-use Rattle.pinwheel.specs.Inner.{Roomy, someSends, Ready, Next}
+use Rattle.pinwheel.specs.Inner.{firstIn, count, Roomy, someSends, Ready, Next}
+use Rattle.pinwheel.proofs.Laws.Words.{Positive, Precedes, Taker}
 use Rattle.pinwheel.proofs.Laws.Search.{lt-or-le, first-passes, first-before, first-skip, first-ext, any-some, any-at, any-ext}
 use Rattle.pinwheel.proofs.Laws.Bases.{largest-above}
 use Rattle.pinwheel.proofs.Laws.Counting.{count-none, count-le, count-ext, count-more}
@@ -49,7 +50,7 @@ module _ (ps : List ℕ) (p : ℕ) where
       go (inr z) v = here (none (omega arith)) (λ k m y. let u = w .least k m y in omega arith)
 
 -- Where each child finds an offset below its period, no period is 0.
-pub roomy-positive : (ps : List ℕ) → Roomy ps → (k : ℕ) → k < length ps → 1 ≤ getD ps k 0
+pub roomy-positive : (ps : List ℕ) → Roomy ps → Positive ps
 roomy-positive ps r k l = omega (arith, r .room [] k l)
 
 both-ways : (a b : Bool) → (a ≡ true → b ≡ true) → (b ≡ true → a ≡ true) → a ≡ b
@@ -94,7 +95,7 @@ ready-start ps os steps places roomy s-long p-long =
     none : (k : ℕ) → k < length ps → earlier ps 0 (length ps) k ≡ true → ⊥
     none k l e = omega (arith, earlier-le ps 0 (length ps) k e, roomy-positive ps roomy k l)
 
-    nobody : (t : ℕ) → (k : ℕ) × (k < length ps) × (earlier ps 0 (length ps) k ≡ true) × (sends (getD ps k 0) (getD os k 0) t ≡ true) → ⊥
+    nobody : (t : ℕ) → Taker ps os 0 (length ps) t → ⊥
     nobody t (k, l, e, s) = none k l e
 
 -- A search from where all below is taken finds the smallest free offset, which is below the period.
@@ -146,7 +147,7 @@ module _ (ps os steps places : List ℕ) (i n r : ℕ) (l : i < length ps) (os-l
   stays : (t : ℕ) → taken ps os p i t ≡ true → taken ps (set os i r) p (i + 1) t ≡ true
   stays t e = go (taken-why ps os p i t e)
     where
-      go : (k : ℕ) × (k < length ps) × (earlier ps p i k ≡ true) × (sends (getD ps k 0) (getD os k 0) t ≡ true)
+      go : Taker ps os p i t
           → taken ps (set os i r) p (i + 1) t ≡ true
       go (k, m, w, s) = taken-by ps (set os i r) p (i + 1) t k m (earlier-more ps p i k w) (old-send t k w ∙ s)
 
@@ -188,7 +189,7 @@ module _ (ps os steps places : List ℕ) (i n r : ℕ) (l : i < length ps) (os-l
       turn-of k m s (inl w) = found (any-some _ n 0 (e ∙ taken-by ps os p i t k m w (sym (old-send t k w) ∙ s)))
       turn-of k m s (inr (z, q)) = any-at after (n + 1) 0 n (omega arith) (omega arith) (last-send t ∙ sym (own-send t) ∙ rw z at s)
 
-      back : (k : ℕ) × (k < length ps) × (earlier ps p (i + 1) k ≡ true) × (sends (getD ps k 0) (getD (set os i r) k 0) t ≡ true)
+      back : Taker ps (set os i r) p (i + 1) t
           → any after (n + 1) 0 ≡ true
       back (k, m, w, s) = turn-of k m s (earlier-joins ps p i k w)
 
@@ -326,7 +327,7 @@ module _ (ps before : List ℕ) (p n from : ℕ) (os steps places : List ℕ) (u
       at k l (inl m) y = absurd (let z = w .least k l m in omega arith)
       at k l (inr m) y = elim (eq-or-lt-of-le m) [ inl z ↦ earlier-same ps p (length ps) k z l | inr z ↦ earlier-below ps p (length ps) k z ]
 
-      down : (k : ℕ) → k < length ps → (getD ps k 0 < q) ⊎ ((getD ps k 0 ≡ q) × (k < 0)) → earlier ps p (length ps) k ≡ true
+      down : (k : ℕ) → k < length ps → Precedes ps q 0 k → earlier ps p (length ps) k ≡ true
       down k l (inl y) = at k l (lt-or-le p (getD ps k 0)) y
       down k l (inr y) = absurd (omega arith)
 

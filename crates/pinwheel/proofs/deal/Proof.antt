@@ -5,9 +5,10 @@ use Prim.Native.Nat.{_≤_}
 use mathlib.Core.Path.{_≡_, sym, _∙_, ap}
 use native.Mathlib.Omega.{arith}
 use Rattle.pinwheel.specs.Rule.{base, periodsOf, offsetsFor, offsetsOf}
+use Rattle.pinwheel.proofs.Laws.Words.{Good}
 use Rattle.pinwheel.proofs.Laws.Bases.{smallest-within, base-fits}
 use Rattle.pinwheel.proofs.Laws.Room.{periods-long, base-roomy}
-use Rattle.pinwheel.proofs.Laws.Checks.{Good, gap-limits, refuse-offsets, refuse-periods, refuse-none, refuse-many, refuse-gap}
+use Rattle.pinwheel.proofs.Laws.Checks.{gap-limits, refuse-offsets, refuse-periods, refuse-none, refuse-many, refuse-gap}
 use Rattle.pinwheel.proofs.Laws.Checks.{refuse-crowded, accept}
 use Rattle.pinwheel.proofs.deal.Statement.{statement}
 use Rattle.pinwheel.proofs.deal.Tie as tie
@@ -67,7 +68,7 @@ returns-6 c = refuse-crowded _ _ _ _ (good (c .before .before)) (sym (c .before 
 fill-requires : tie.Need-fill-requires
 fill-requires c κs =
     let passed = c .before .before .before in
-    let low = base-fits 2 two (start passed .args .gaps .now) (fit (c .before)) .0 in
+    let low = base-fits 2 two (start passed .args .gaps .now) (fit (c .before)) .1 in
     let is = c .before .before .largest-fitting .ensures in (
       record { two = two; one = omega arith; within = λ i l. omega (arith, smallest-within (start passed .args .gaps .now) i l) },
       good passed .periods-long,

@@ -8,9 +8,9 @@ use mathlib.Core.List.{List}
 use lib.ListN.{getD}
 use borrow.Author.Tests.{eq-eqb, ne-eqb}
 use native.Mathlib.Omega.{arith}
-use Rattle.pinwheel.specs.Search.{any, firstIn}
+use Rattle.pinwheel.specs.Search.{any}
 use Rattle.pinwheel.specs.Rule.{sends}
-use Rattle.pinwheel.specs.Inner.{someSends}
+use Rattle.pinwheel.specs.Inner.{firstIn, someSends}
 use Rattle.pinwheel.proofs.Laws.Search.{first-hit, first-miss, first-end, any-hit, any-miss, any-end}
 use Rattle.pinwheel.proofs.offsets.free_offset.Statement.{statement}
 use Rattle.pinwheel.proofs.offsets.free_offset.Tie as tie
