@@ -9,7 +9,7 @@ pub mod Offsets
 pub mod Room
 pub mod Turns
 pub mod Checks
-use Prim.Native.Nat.{ℕ, _+_, _*_, _^_, _/_, _%_, _≤_, _<_}
+use Prim.Native.Nat.{ℕ, _*_, _^_, _/_, _%_, _≤_, _<_}
 use mathlib.Core.Path.{_≡_, refl, sym, _∙_, ap}
 use mathlib.Core.Bool.{Bool, true, false, not, false≢true}
 use mathlib.Core.List.{List, [], _∷_, map}
@@ -78,7 +78,8 @@ module _ (f : ℕ) (two : 2 ≤ f) where
           rw q (outcome-base gaps offsets periods g (rw q at one))
 
   -- Rule 4. Refused with 11 just when the lists are as 1 and 5 ask and no base from 1 to the smallest gap fits.
-  pub crowded-when : (gaps offsets periods : List ℕ) → (dealt f gaps offsets periods .0 ≡ refused 11 0) ↔ (Good gaps offsets periods × NoneFits f gaps)
+  pub crowded-when : (gaps offsets periods : List ℕ)
+      → (dealt f gaps offsets periods .0 ≡ refused 11 0) ↔ (Good gaps offsets periods × NoneFits f gaps)
   crowded-when gaps offsets periods =
       (λ e. (good e, none e (lt-or-le 0 (base f gaps))), λ w. outcome-none gaps offsets periods (w .0) (base-none f two gaps .1 (w .1)))
     where

@@ -7,33 +7,30 @@ ghost use Rattle.pinwheel.specs.Search.{smallest, largest};
 ghost use Rattle.pinwheel.specs.Rule.{period, sum, limit, base};
 ghost use Rattle.pinwheel.specs.Inner.{Allowed};
 
-fn smallest_of(gaps: &[u16]) -> u16
-    requires { ⌜ 1 ≤ length (now gaps) ⌝ }
-    ensures { λ r. ⌜ r ≡ smallest (now (gaps .entry)) ⌝ }
-{
-    let mut low = gaps[0];
-    let mut i = 1;
-    while i < gaps.len() {
-        if gaps[i] < low {
-            low = gaps[i];
-        }
-        i += 1;
-    }
-    low
+// The smallest and the largest gap.
+struct Span {
+    low: u16,
+    high: u16,
 }
 
-fn largest_of(gaps: &[u16]) -> u16
-    ensures { λ r. ⌜ r ≡ largest (now (gaps .entry)) ⌝ }
+fn span_of(gaps: &[u16]) -> Span
+    requires { ⌜ 1 ≤ length (now gaps) ⌝ }
+    ensures { λ r. ⌜ (r .low ≡ smallest (now (gaps .entry))) × (r .high ≡ largest (now (gaps .entry))) ⌝ }
 {
-    let mut high = 0;
-    let mut i = 0;
+    let mut low = gaps[0];
+    let mut high = gaps[0];
+    let mut i = 1;
     while i < gaps.len() {
-        if high < gaps[i] {
-            high = gaps[i];
+        let gap = gaps[i];
+        if gap < low {
+            low = gap;
+        }
+        if high < gap {
+            high = gap;
         }
         i += 1;
     }
-    high
+    Span { low, high }
 }
 
 // The two sides of the test whether a base fits.
@@ -74,11 +71,11 @@ pub(crate) fn largest_fitting(gaps: &[u16], factor: u16) -> u16
     requires { ⌜ (2 ≤ factor) × (1 ≤ length (now gaps)) × (length (now gaps) ≤ 63) ⌝ }
     ensures { λ r. ⌜ r ≡ base factor (now (gaps .entry)) ⌝ }
 {
-    let most = largest_of(gaps);
-    let mut b = smallest_of(gaps);
+    let span = span_of(gaps);
+    let mut b = span.low;
     let tried = b / factor;
     while tried < b {
-        let found = figures_of(gaps, most, b, factor);
+        let found = figures_of(gaps, span.high, b, factor);
         if found.sum <= found.limit {
             return b;
         }

@@ -63,10 +63,7 @@ fn fill_level(
         }
         i += 1;
     }
-    Progress {
-        count: n,
-        from: from,
-    }
+    Progress { count: n, from }
 }
 
 // The smaller of two periods, of which the first may be missing, as 0.

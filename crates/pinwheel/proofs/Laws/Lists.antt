@@ -1,4 +1,4 @@
--- Loops over a list, for lists of any width: a list filled entry by entry, and what is left of a sum, a smallest or a largest number from index i on.
+-- Loops over a list, for lists of any width: a list filled entry by entry, a sum, and the smallest and largest number.
 use Prim.Native.Nat.{ℕ, zero, suc, _+_, _*_, _≤_, _<_, min, max}
 use mathlib.Core.Path.{_≡_, refl, sym, _∙_}
 use mathlib.Core.List.{List, [], _∷_, map}
@@ -59,16 +59,30 @@ module _ (h : ℕ → ℕ) (most : ℕ) (xs : List ℕ) where
   unfolding total
   summed-end i sum s l = let e = rw (drop-of-length-le xs l) at (s .rest) in omega arith
 
-module _ (xs : List ℕ) (i : ℕ) where
-  pub least-more : (x : ℕ) → i < length xs → least (min x (getD xs i 0)) (drop (i + 1) xs) ≡ least x (drop i xs)
-  unfolding least
-  least-more x l = rw (add-one, drop-cons xs i 0)
+-- The smallest and the largest number of a list, of which the first i entries are in.
+pub record Spanned (xs : List ℕ) (i low high : ℕ) : Type 0 where
+  pub upto : i ≤ length xs
+  pub lower : least low (drop i xs) ≡ smallest xs
+  pub upper : max high (largest (drop i xs)) ≡ largest xs
 
-  pub largest-more : (x : ℕ) → i < length xs → max (max x (getD xs i 0)) (largest (drop (i + 1) xs)) ≡ max x (largest (drop i xs))
-  unfolding largest
-  largest-more x l = rw (add-one, drop-cons xs i 0) (omega arith)
+pub spanned-start : (xs : List ℕ) → 1 ≤ length xs → Spanned xs 1 (getD xs 0 0) (getD xs 0 0)
+unfolding smallest largest
+spanned-start [] l = absurd (omega arith)
+spanned-start (x ∷ xs) l = record { upto = l; lower = refl; upper = refl }
 
-pub smallest-start : (xs : List ℕ) → 1 ≤ length xs → least (getD xs 0 0) (drop 1 xs) ≡ smallest xs
-unfolding smallest
-smallest-start [] l = absurd (omega arith)
-smallest-start (x ∷ xs) l = refl
+module _ (xs : List ℕ) (i low high : ℕ) (s : Spanned xs i low high) where
+  pub spanned-more : (low′ high′ : ℕ) → i < length xs → low′ ≡ min low (getD xs i 0) → high′ ≡ max high (getD xs i 0)
+      → Spanned xs (i + 1) low′ high′
+  unfolding least largest
+  spanned-more low′ high′ l p q =
+      record { upto = omega arith; lower = rw (p, add-one) (rw rest at (s .lower)); upper = rw (q, add-one) (omega (arith, rw rest at (s .upper))) }
+    where
+      rest : drop i xs ≡ getD xs i 0 ∷ drop (suc i) xs
+      rest = drop-cons xs i 0 l
+
+  pub spanned-end : length xs ≤ i → (low ≡ smallest xs) × (high ≡ largest xs)
+  unfolding least largest
+  spanned-end l =
+      let none = drop-of-length-le xs l in
+      let upper = rw none at (s .upper) in
+      (rw none at (s .lower), omega arith)

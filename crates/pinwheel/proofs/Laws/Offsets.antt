@@ -182,7 +182,8 @@ module _ (ps : List ℕ) where
     where
       go : (t : Bool) → eqb (getD ps i 0) p ≡ t → Sofar ps p (i + 1) (turn ps p i os)
       go true q = rw q (let e : getD ps i 0 ≡ p = eqb-true _ _ q in rw (← e) (sofar-set i os l (rw (← e) at s)))
-      go false q = rw q (record { long = s .long; each = λ k m w. s .each k m (earlier-back ps p i k (λ y. eqb-false _ _ q (rw (y .0) at (y .1))) w) })
+      go false q =
+          rw q (record { long = s .long; each = λ k m w. s .each k m (earlier-back ps p i k (λ y. eqb-false _ _ q (rw (y .0) at (y .1))) w) })
 
   sofar-rise : (p : ℕ) (os : List ℕ) → Sofar ps p (length ps) os → Sofar ps (p + 1) 0 os
   sofar-rise p os s = record { long = s .long; each = λ k m w. s .each k m (earlier-rise ps p k m w) }

@@ -6,36 +6,33 @@ use Rattle.pinwheel.proofs.bases.largest_fitting.Statement.{statement}
 use Rattle.pinwheel.proofs.bases.largest_fitting.Tie as tie
 
 abbrev Inv-loop : tie.InvT-loop
-Inv-loop gaps factor most b₀ tried b = Tried factor gaps b
+Inv-loop gaps factor span b₀ tried b = Tried factor gaps b
 
 abbrev μ-loop : tie.MeasureT-loop
-μ-loop gaps factor most b₀ tried b = b
+μ-loop gaps factor span b₀ tried b = b
 
-largest-of-requires : tie.Need-largest-of-requires Inv-loop μ-loop
-largest-of-requires c κs = search needs
-
-smallest-of-requires : tie.Need-smallest-of-requires Inv-loop μ-loop
-smallest-of-requires c κs = search needs
+span-of-requires : tie.Need-span-of-requires Inv-loop μ-loop
+span-of-requires c κs = search needs
 
 div-tried : tie.Need-div-tried Inv-loop μ-loop
 div-tried c = search needs
 
 loop-holds : tie.Need-loop-holds Inv-loop μ-loop
-loop-holds c = tried-start _ (c .before .before .before .pre .0) _ _ (c .smallest-of .ensures)
+loop-holds c = tried-start _ (c .before .before .pre .0) _ _ (c .span-of .ensures .0)
 
 figures-of-requires : tie.Need-figures-of-requires Inv-loop μ-loop
 figures-of-requires c κs =
-    let start = c .before .before .before .before .before in
+    let start = c .before .before .before .before in
     let most = c .before .loop .inv .within in (
       record { two = start .pre .0; one = omega arith; within = λ i l. omega (arith, smallest-within (start .args .gaps .now) i l) },
-      c .before .before .before .largest-of .ensures,
+      c .before .before .span-of .ensures .1,
       start .pre .1,
       start .pre .2,
     )
 
 returns : tie.Need-returns Inv-loop μ-loop
 returns c =
-    let two = c .before .before .before .before .before .before .before .before .pre .0 in
+    let two = c .before .before .before .before .before .before .before .pre .0 in
     let figures = c .before .before .figures-of .ensures in
     tried-hit _ two _ _ (c .before .before .before .before .loop .inv) (fits-yes _ two _ _ _ _ (figures .0) (figures .1) (c .if1 .taken))
 
@@ -47,13 +44,13 @@ loop-less c = search needs
 
 loop-again : tie.Need-loop-again Inv-loop μ-loop
 loop-again c =
-    let two = c .before .before .before .before .before .before .before .before .pre .0 in
+    let two = c .before .before .before .before .before .before .before .pre .0 in
     let figures = c .before .before .figures-of .ensures in
     tried-less _ two _ _ (c .before .before .before .before .loop .inv) (fits-no _ two _ _ _ _ (figures .0) (figures .1) (c .if1 .left))
 
 returns-2 : tie.Need-returns-2 Inv-loop μ-loop
 returns-2 c =
-    tried-end _ (c .before .before .before .before .before .pre .0) _ _ _ (c .before .loop .inv) (c .before .before .smallest-of .ensures) (c .loop-test .left)
+    tried-end _ (c .before .before .before .before .pre .0) _ _ _ (c .before .loop .inv) (c .before .before .span-of .ensures .0) (c .loop-test .left)
 
 pub largest-fitting-spec : {M : Type 1} → statement M
 largest-fitting-spec =
@@ -61,8 +58,7 @@ largest-fitting-spec =
     (tie.spec
     Inv-loop
     μ-loop
-    largest-of-requires
-    smallest-of-requires
+    span-of-requires
     div-tried
     loop-holds
     figures-of-requires
