@@ -1,5 +1,6 @@
 -- `bases::largest_fitting` goes down from the smallest gap: no base passed fits. Where none above the smallest gap / factor does, none at all does.
 use borrow.Author.Needs.{needs}
+use Prim.Native.Nat.{_≤_, _<_}
 use native.Mathlib.Omega.{arith}
 use Rattle.pinwheel.proofs.Laws.Bases.{Tried, smallest-within, tried-start, tried-less, tried-hit, tried-end, fits-yes, fits-no}
 use Rattle.pinwheel.proofs.bases.largest_fitting.Statement.{statement}
@@ -33,8 +34,9 @@ figures-of-requires c κs =
 returns : tie.Need-returns Inv-loop μ-loop
 returns c =
     let two = c .before .before .before .before .before .before .before .pre .0 in
-    let figures = c .before .before .figures-of .ensures in
-    tried-hit _ two _ _ (c .before .before .before .before .loop .inv) (fits-yes _ two _ _ _ _ (figures .0) (figures .1) (c .if1 .taken))
+    let figures = c .before .before .figures-of in
+    let judged : figures .result .sum ≤ figures .result .limit = omega arith in
+    tried-hit _ two _ _ (c .before .before .before .before .loop .inv) (fits-yes _ two _ _ _ _ (figures .ensures .0) (figures .ensures .1) judged)
 
 sub-b : tie.Need-sub-b Inv-loop μ-loop
 sub-b c = search needs
@@ -45,8 +47,9 @@ loop-less c = search needs
 loop-again : tie.Need-loop-again Inv-loop μ-loop
 loop-again c =
     let two = c .before .before .before .before .before .before .before .pre .0 in
-    let figures = c .before .before .figures-of .ensures in
-    tried-less _ two _ _ (c .before .before .before .before .loop .inv) (fits-no _ two _ _ _ _ (figures .0) (figures .1) (c .if1 .left))
+    let figures = c .before .before .figures-of in
+    let judged : figures .result .limit < figures .result .sum = omega arith in
+    tried-less _ two _ _ (c .before .before .before .before .loop .inv) (fits-no _ two _ _ _ _ (figures .ensures .0) (figures .ensures .1) judged)
 
 returns-2 : tie.Need-returns-2 Inv-loop μ-loop
 returns-2 c =
