@@ -1,0 +1,5 @@
+pub mod Tree
+pub mod Schedule
+pub mod Reservations
+pub mod Rulings
+pub mod Judge

@@ -1,0 +1,309 @@
+-- What flows keep on the links of their routes: the sums that the code makes on the way up, and how a flow more or less changes them.
+use Prim.Native.Nat.{ℕ, zero, suc, _+_, _-_, _*_, _≤_, _<_}
+use mathlib.Core.Path.{_≡_, refl, _∙_, ap}
+use mathlib.Core.Bool.{Bool, true, false, cond, _&&_}
+use mathlib.Core.List.{List, [], _∷_}
+use mathlib.Core.Logic.{_⊎_, inl, inr, ⊎-elim}
+use lib.Dec.{eqb, ltb}
+use lib.ListN.{length, getD, set, replicate, length-set, getD-replicate, List·getD-eq-default}
+use lib.Seq.{getD-set-same, getD-set-other}
+use borrow.Author.Tests.{lt-ltb, le-ltb, eq-eqb, ne-eqb, eqb-true, eqb-false}
+use native.Mathlib.Nat.{mul-le-mul, suc-mul, eq-or-lt-of-le}
+use native.Mathlib.Numerals.{add-one}
+use native.Mathlib.Omega.{arith}
+use Rattle.pinwheel.proofs.Laws.Search.{lt-or-le}
+use Rattle.site.specs.declared.Site.{Site}
+use Rattle.site.specs.declared.Flow.{Flow}
+use Rattle.site.specs.Sites.{ofLink, live, withFields, withFlow, withoutFlow}
+use Rattle.site.specs.Tree.{up, route, has}
+use Rattle.site.specs.Reservations.{gapsJudged, routeOf, widthAt, widthOn, sumTo, load, over, along, late, delayBound}
+use Rattle.site.specs.Inner.{carried}
+use Rattle.site.proofs.Laws.Tree.{way-up, route-up, route-end, route-root, route-within, up-within}
+
+-- The sum over a route, link by link: `sum` has the links below node n. A step adds at most one entry and goes to a smaller number,
+-- so the sum stays within as many entries as the first node's number.
+pub record Summing (xs p : List ℕ) (node sum n : ℕ) : Type 0 where
+  pub rest : sum + along xs (route p n) ≡ along xs (route p node)
+  pub room : sum + n * 65535 ≤ node * 65535
+
+module _ (xs p : List ℕ) (node : ℕ) where
+  pub summing-start : Summing xs p node 0 node
+  summing-start = record { rest = omega arith; room = omega arith }
+
+  module _ (sum n u : ℕ) (s : Summing xs p node sum n) (e : u ≡ up p n) where
+    pub summing-more : (x : ℕ) → u < n → x ≡ ofLink xs n → x ≤ 65535 → Summing xs p node (sum + x) u
+    unfolding along
+    summing-more x h q l = record { rest = rw (e, q) (omega (arith, rw (route-up p n (rw e at h)) at (s .rest))); room = omega (arith, s .room) }
+
+    pub summing-end : n ≤ u → sum ≡ along xs (route p node)
+    unfolding along
+    summing-end h = omega (arith, rw (route-end p n (rw e at h)) at (s .rest))
+
+module _ (gaps : List ℕ) (rate : ℕ) where
+  pub carried-long : (ms loads : List ℕ) → length (carried gaps rate ms loads) ≡ length loads
+  unfolding carried
+  carried-long [] loads = refl
+  carried-long (m ∷ ms) loads =
+      carried-long ms (set loads (m - 1) (getD loads (m - 1) 0 + widthAt gaps rate m)) ∙ length-set loads (m - 1) _
+
+  -- The numbers of a route fall, so no link has the width added twice.
+  pub carried-at : (p : List ℕ) (i n : ℕ) (loads : List ℕ) → i < length loads
+      → getD (carried gaps rate (route p n) loads) i 0 ≡ getD loads i 0 + cond (has (i + 1) (route p n)) (widthAt gaps rate (i + 1)) 0
+  unfolding carried has
+  carried-at p i =
+      way-up p (λ n. (loads : List ℕ) → i < length loads
+      → getD (carried gaps rate (route p n) loads) i 0 ≡ getD loads i 0 + cond (has (i + 1) (route p n)) (widthAt gaps rate (i + 1)) 0)
+      (λ n l loads h. rw (route-end p n l) (omega arith))
+      (λ n l ih loads h. rw (route-up p n l) (go n l loads h (ih (more n loads)) (eqb n (i + 1)) refl))
+    where
+      more : ℕ → List ℕ → List ℕ
+      more n loads = set loads (n - 1) (getD loads (n - 1) 0 + widthAt gaps rate n)
+
+      below : (n : ℕ) → up p n < n → n ≡ i + 1 → (t : Bool) → has (i + 1) (route p (up p n)) ≡ t → t ≡ false
+      below n l e true t = absurd (omega (arith, route-within p (i + 1) (up p n) t .1))
+      below n l e false t = refl
+
+      go : (n : ℕ) → up p n < n → (loads : List ℕ) → i < length loads
+          → (i < length (more n loads) → getD (carried gaps rate (route p (up p n)) (more n loads)) i 0
+          ≡ getD (more n loads) i 0 + cond (has (i + 1) (route p (up p n))) (widthAt gaps rate (i + 1)) 0)
+          → (b : Bool) → eqb n (i + 1) ≡ b
+          → getD (carried gaps rate (route p (up p n)) (more n loads)) i 0
+          ≡ getD loads i 0 + cond (cond b true (has (i + 1) (route p (up p n)))) (widthAt gaps rate (i + 1)) 0
+      go n l loads h ih true t =
+          let e : n ≡ i + 1 = eqb-true n (i + 1) t in
+          let k : n - 1 ≡ i = omega arith in
+          ih (rw length-set h) ∙ rw (below n l e _ refl, k, getD-set-same loads i (getD loads i 0 + widthAt gaps rate n) 0 h, e) (omega arith)
+      go n l loads h ih false t =
+          let apart : i ≡ n - 1 → ⊥ = λ e. eqb-false n (i + 1) t (omega arith) in
+          ih (rw length-set h) ∙ rw (getD-set-other loads (n - 1) i (getD loads (n - 1) 0 + widthAt gaps rate n) 0 apart)
+
+-- A flow's width is added on the links from node n up; below it nothing is written yet.
+pub record Carrying (gaps p : List ℕ) (rate entry : ℕ) (loads₀ loads : List ℕ) (n : ℕ) : Type 0 where
+  pub few : n ≤ entry
+  pub long : length loads ≡ length loads₀
+  pub rest : carried gaps rate (route p n) loads ≡ carried gaps rate (route p entry) loads₀
+  pub left : (i : ℕ) → i < n → getD loads i 0 ≡ getD loads₀ i 0
+
+module _ (gaps p : List ℕ) (rate entry : ℕ) (loads₀ : List ℕ) where
+  pub carrying-start : Carrying gaps p rate entry loads₀ loads₀ entry
+  carrying-start = record { few = omega arith; long = refl; rest = refl; left = λ i l. refl }
+
+  module _ (loads : List ℕ) (n u : ℕ) (s : Carrying gaps p rate entry loads₀ loads n) (e : u ≡ up p n) where
+    pub carrying-more : (x : ℕ) → u < n → x ≡ ofLink gaps n
+        → Carrying gaps p rate entry loads₀ (set loads (n - 1) (getD loads (n - 1) 0 + rate * x)) u
+    unfolding carried widthAt
+    carrying-more x h q = record {
+      few = omega (arith, s .few);
+      long = rw length-set (s .long);
+      rest = rw (e, q) (rw (route-up p n (rw e at h)) at (s .rest));
+      left = λ i l. getD-set-other loads (n - 1) i _ 0 (λ z. omega arith) ∙ s .left i (omega arith);
+    }
+
+    pub carrying-end : n ≤ u → loads ≡ carried gaps rate (route p entry) loads₀
+    unfolding carried
+    carrying-end h = rw (route-end p n (rw e at h)) at (s .rest)
+
+    -- A node with a way up has a link.
+    pub carrying-within : length loads₀ ≡ length p → u < n → n - 1 < length loads
+    carrying-within l h = omega (arith, s .long, up-within p n (rw e at h))
+
+    -- Its load is the one of the start, and so bounded.
+    pub carrying-le : (most : ℕ) → ((i : ℕ) → getD loads₀ i 0 ≤ most) → u < n → getD loads (n - 1) 0 ≤ most
+    carrying-le most b h = rw (s .left (n - 1) (omega arith)) (b (n - 1))
+
+-- The product of a u8 and a u16.
+pub width-le : (rate x : ℕ) → rate ≤ 255 → x ≤ 65535 → rate * x ≤ 16711425
+width-le rate x a b = mul-le-mul {n₂ = 255} {m₂ = 65535} a b
+
+link-le : (xs : List ℕ) (most : ℕ) → ((i : ℕ) → getD xs i 0 ≤ most) → (m : ℕ) → ofLink xs m ≤ most
+unfolding ofLink
+link-le xs most b zero = omega arith
+link-le xs most b (suc i) = b i
+
+-- A sum over numbers.
+sum-more : (f : ℕ → ℕ) (k : ℕ) → sumTo f (k + 1) ≡ sumTo f k + f k
+unfolding sumTo
+sum-more f k = rw add-one
+
+sum-le : (f : ℕ → ℕ) (most k : ℕ) → ((i : ℕ) → f i ≤ most) → sumTo f k ≤ k * most
+unfolding sumTo
+sum-le f most zero b = omega arith
+sum-le f most (suc k) b = rw suc-mul (omega (arith, sum-le f most k b, b k))
+
+-- What a flow keeps of a link.
+module _ (s : Site) (m n : ℕ) where
+  pub width-live : live s n ≡ true → widthOn s m n ≡ cond (has m (routeOf s n)) (widthAt (gapsJudged s) (getD (s .rates) n 0) m) 0
+  unfolding widthOn
+  width-live e = rw e
+
+  pub width-none : live s n ≡ false → widthOn s m n ≡ 0
+  unfolding widthOn
+  width-none e = rw e
+
+  width-on-le : ((i : ℕ) → getD (s .rates) i 0 ≤ 255) → ((i : ℕ) → getD (gapsJudged s) i 0 ≤ 65535) → widthOn s m n ≤ 16711425
+  unfolding widthOn widthAt
+  width-on-le r g = go (live s n && has m (routeOf s n))
+    where
+      go : (t : Bool) → cond t (getD (s .rates) n 0 * ofLink (gapsJudged s) m) 0 ≤ 16711425
+      go true = width-le _ _ (r n) (link-le (gapsJudged s) 65535 g m)
+      go false = omega arith
+
+-- The loads of the 63 links by the flows with numbers below n.
+pub record Loaded (s : Site) (n : ℕ) (loads : List ℕ) : Type 0 where
+  pub upto : n ≤ 64
+  pub long : length loads ≡ 63
+  pub each : (i : ℕ) → i < 63 → getD loads i 0 ≡ sumTo (widthOn s (i + 1)) n
+
+module _ (s : Site) where
+  pub loaded-start : Loaded s 0 (replicate 63 0)
+  unfolding sumTo
+  loaded-start = record { upto = omega arith; long = refl; each = λ i l. getD-replicate 63 i 0 0 l }
+
+  -- 64 widths of at most 255 * 65535 leave room for one more in 32 bits.
+  pub loaded-le : (n : ℕ) (loads : List ℕ) → Loaded s n loads
+      → ((i : ℕ) → getD (s .rates) i 0 ≤ 255) → ((i : ℕ) → getD (gapsJudged s) i 0 ≤ 65535) → (i : ℕ) → getD loads i 0 ≤ 4000000000
+  loaded-le n loads w r g i =
+      ⊎-elim (λ l. rw (w .each i l) (omega (arith, w .upto, sum-le (widthOn s (i + 1)) 16711425 n (λ k. width-on-le s (i + 1) k r g))))
+      (λ l. rw (List·getD-eq-default loads 0 {n = i} (omega (arith, w .long))) (omega arith)) (lt-or-le i 63)
+
+  pub loaded-live : (n : ℕ) (gaps loads next : List ℕ) → Loaded s n loads → n < 64 → getD (s .states) n 0 ≡ 1 → gaps ≡ gapsJudged s
+      → next ≡ carried gaps (getD (s .rates) n 0) (route (s .parents) (getD (s .entries) n 0)) loads → Loaded s (n + 1) next
+  unfolding live routeOf
+  loaded-live n gaps loads next w l e g q = record {
+    upto = omega arith;
+    long = rw q (carried-long gaps (getD (s .rates) n 0) (route (s .parents) (getD (s .entries) n 0)) loads ∙ w .long);
+    each = λ i h. rw (q, sum-more (widthOn s (i + 1)) n, width-live s (i + 1) n (eq-eqb _ _ e), ← g, ← w .each i h)
+        (carried-at gaps (getD (s .rates) n 0) (s .parents) i (getD (s .entries) n 0) loads (omega (arith, w .long)));
+  }
+
+  pub loaded-none : (n : ℕ) (loads : List ℕ) → Loaded s n loads → n < 64 → (getD (s .states) n 0 ≡ 1 → ⊥) → Loaded s (n + 1) loads
+  unfolding live
+  loaded-none n loads w l e = record {
+    upto = omega arith;
+    long = w .long;
+    each = λ i h. rw (sum-more (widthOn s (i + 1)) n, width-none s (i + 1) n (ne-eqb _ _ e), ← w .each i h) (omega arith);
+  }
+
+  pub loaded-end : (n : ℕ) (loads : List ℕ) → Loaded s n loads → 64 ≤ n → (length loads ≡ 63) × ((i : ℕ) → i < 63 → getD loads i 0 ≡ load s (i + 1))
+  unfolding load
+  loaded-end n loads w l = let e : n ≡ 64 = omega (arith, w .upto) in (w .long, λ i h. w .each i h ∙ ap (λ (k : ℕ). sumTo (widthOn s (i + 1)) k) e)
+
+-- Whether a flow is late, by the sum that the code made for it.
+module _ (s : Site) (n : ℕ) where
+  pub late-none : (getD (s .states) n 0 ≡ 1 → ⊥) → late s n ≡ false
+  unfolding late live
+  late-none e = rw (ne-eqb _ _ e)
+
+  module _ (gaps : List ℕ) (sum : ℕ) (e : getD (s .states) n 0 ≡ 1) (g : gaps ≡ gapsJudged s)
+      (q : sum ≡ along gaps (route (s .parents) (getD (s .entries) n 0))) where
+    late-judged : late s n ≡ ltb (getD (s .deadlines) n 0) sum
+    unfolding late live routeOf
+    late-judged = rw (eq-eqb _ _ e, q, g)
+
+    pub late-over : getD (s .deadlines) n 0 < sum → late s n ≡ true
+    late-over l = late-judged ∙ lt-ltb _ _ l
+
+    pub late-kept : sum ≤ getD (s .deadlines) n 0 → late s n ≡ false
+    late-kept l = late-judged ∙ le-ltb _ _ l
+
+-- Whether a link is over its capacity, by its load in a list of loads.
+module _ (s : Site) (i x : ℕ) (e : x ≡ load s (i + 1)) where
+  pub over-yes : getD (s .capacities) i 0 < x → over s i ≡ true
+  unfolding over
+  over-yes l = rw (← e) (lt-ltb _ _ l)
+
+  pub over-no : x ≤ getD (s .capacities) i 0 → over s i ≡ false
+  unfolding over
+  over-no l = rw (← e) (le-ltb _ _ l)
+
+-- A flow number beyond the list enters at the root, whose route is empty.
+pub delay-none : (s : Site) (n : ℕ) → length (s .entries) ≤ n → 0 ≡ delayBound s n
+unfolding delayBound routeOf along
+delay-none s n l = rw (List·getD-eq-default (s .entries) 0 {n = n} l, route-root (s .parents))
+
+-- Sums of terms that agree where the sum looks are equal, and where they agree at all numbers but n the sums differ as the terms at n do.
+module _ (f g : ℕ → ℕ) where
+  sum-ext : (k : ℕ) → ((i : ℕ) → i < k → f i ≡ g i) → sumTo f k ≡ sumTo g k
+  unfolding sumTo
+  sum-ext zero h = refl
+  sum-ext (suc k) h = rw (h k (omega arith), sum-ext k (λ i l. h i (omega arith)))
+
+  pub sum-except : (n k : ℕ) → ((i : ℕ) → (i ≡ n → ⊥) → f i ≡ g i) → n < k → sumTo f k + g n ≡ sumTo g k + f n
+  unfolding sumTo
+  sum-except n zero h l = absurd (omega arith)
+  sum-except n (suc k) h l = go (eq-or-lt-of-le l) (sum-except n k h)
+    where
+      go : (suc n ≡ suc k) ⊎ (suc n < suc k) → (n < k → sumTo f k + g n ≡ sumTo g k + f n) → (sumTo f k + f k) + g n ≡ (sumTo g k + g k) + f n
+      go (inl e) ih = let w : n ≡ k = omega arith in rw (w, sum-ext k (λ i m. h i (λ z. omega arith))) (omega arith)
+      go (inr m) ih = rw (h k (λ z. omega arith)) (omega (arith, ih (omega arith)))
+
+-- A site with other fields at flow number n: the other flows keep what they kept, and are late or not as they were.
+module _ (s : Site) (n state entry rate deadline : ℕ) where
+  width-other : (m k : ℕ) → (k ≡ n → ⊥) → widthOn (withFields s n state entry rate deadline) m k ≡ widthOn s m k
+  unfolding widthOn live routeOf gapsJudged
+  width-other m k h =
+      rw (getD-set-other (s .states) n k state 0 h, getD-set-other (s .entries) n k entry 0 h, getD-set-other (s .rates) n k rate 0 h)
+
+  late-other : (k : ℕ) → (k ≡ n → ⊥) → late (withFields s n state entry rate deadline) k ≡ late s k
+  unfolding late live routeOf gapsJudged
+  late-other k h =
+      rw (getD-set-other (s .states) n k state 0 h, getD-set-other (s .entries) n k entry 0 h, getD-set-other (s .deadlines) n k deadline 0 h)
+
+  live-here : n < length (s .states) → live (withFields s n state entry rate deadline) n ≡ eqb state 1
+  unfolding live
+  live-here l = rw (getD-set-same (s .states) n state 0 l)
+
+  load-change : (m : ℕ) → n < 64
+      → load (withFields s n state entry rate deadline) m + widthOn s m n ≡ load s m + widthOn (withFields s n state entry rate deadline) m n
+  unfolding load
+  load-change m l = sum-except (widthOn (withFields s n state entry rate deadline) m) (widthOn s m) n 64 (width-other m) l
+
+-- A live flow more, at a number that is not live.
+module _ (s : Site) (f : Flow) (few : f .number < 64) (states-long : length (s .states) ≡ 64) (entries-long : length (s .entries) ≡ 64) where
+  -- On each link of its route the load grows by its width.
+  pub load-with : length (s .rates) ≡ 64 → live s (f .number) ≡ false → (m : ℕ)
+      → load (withFlow s f) m ≡ load s m + cond (has m (route (s .parents) (f .entry))) (widthAt (gapsJudged s) (f .rate) m) 0
+  unfolding withFlow routeOf gapsJudged
+  load-with rates-long dead m =
+      let change = load-change s (f .number) 1 (f .entry) (f .rate) (f .deadline) m few in
+      let before = width-none s m (f .number) dead in
+      omega (arith, change, before, here)
+    where
+      here : widthOn (withFlow s f) m (f .number) ≡ cond (has m (route (s .parents) (f .entry))) (widthAt (gapsJudged s) (f .rate) m) 0
+      here = width-live (withFlow s f) m (f .number) (live-here s (f .number) 1 (f .entry) (f .rate) (f .deadline) (omega arith))
+          ∙ rw (getD-set-same (s .entries) (f .number) (f .entry) 0 (omega arith), getD-set-same (s .rates) (f .number) (f .rate) 0 (omega arith))
+
+  pub late-with : length (s .deadlines) ≡ 64
+      → late (withFlow s f) (f .number) ≡ ltb (f .deadline) (along (gapsJudged s) (route (s .parents) (f .entry)))
+  unfolding withFlow late routeOf gapsJudged
+  late-with deadlines-long =
+      rw (
+        live-here s (f .number) 1 (f .entry) (f .rate) (f .deadline) (omega arith),
+        getD-set-same (s .entries) (f .number) (f .entry) 0 (omega arith),
+        getD-set-same (s .deadlines) (f .number) (f .deadline) 0 (omega arith),
+      )
+
+pub late-with-other : (s : Site) (f : Flow) (k : ℕ) → (k ≡ f .number → ⊥) → late (withFlow s f) k ≡ late s k
+unfolding withFlow
+late-with-other s f k h = late-other s (f .number) 1 (f .entry) (f .rate) (f .deadline) k h
+
+-- A flow less.
+pub late-without-other : (s : Site) (n k : ℕ) → (k ≡ n → ⊥) → late (withoutFlow s n) k ≡ late s k
+unfolding withoutFlow
+late-without-other s n k h = late-other s n 0 0 0 0 k h
+
+module _ (s : Site) (n : ℕ) (few : n < 64) (states-long : length (s .states) ≡ 64) where
+  -- The load of each link falls by what the flow kept of it.
+  pub load-taken : (m : ℕ) → load (withoutFlow s n) m + widthOn s m n ≡ load s m
+  unfolding withoutFlow
+  load-taken m =
+      let change = load-change s n 0 0 0 0 m few in
+      let after = width-none (withoutFlow s n) m n (live-here s n 0 0 0 0 (omega arith)) in
+      omega arith
+
+  pub load-without : (m : ℕ) → load (withoutFlow s n) m ≤ load s m
+  load-without m = omega (arith, load-taken m)
+
+  pub late-without : late (withoutFlow s n) n ≡ false
+  unfolding withoutFlow late
+  late-without = rw (live-here s n 0 0 0 0 (omega arith))

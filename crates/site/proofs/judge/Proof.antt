@@ -1,0 +1,45 @@
+-- `judge` gives 11 where a parent is crowded; otherwise the lists dealt are the whole schedule, and 12 and 13 are judged with it.
+use borrow.Author.Needs.{needs}
+use Prim.Native.Nat.{_<_}
+use mathlib.Core.Path.{_∙_}
+use native.Mathlib.Omega.{arith}
+use Rattle.site.specs.Sites.{withSchedule}
+use Rattle.site.specs.Schedule.{used}
+use Rattle.site.proofs.Laws.Rulings.{refuse-crowded, go-on}
+use Rattle.site.proofs.judge.Statement.{statement}
+use Rattle.site.proofs.judge.Tie as tie
+
+deal-all-requires : tie.Need-deal-all-requires
+deal-all-requires c κs = search needs
+
+used-requires : tie.Need-used-requires
+used-requires c κs = search needs
+
+refusal-requires : tie.Need-refusal-requires
+refusal-requires c κs = search needs
+
+returns : tie.Need-returns
+returns c = c .refusal .ensures ∙ refuse-crowded _ _ _ (c .before .before .used .ensures) (c .before .before .before .deal-all .ensures .crowded) (c .before .if1 .taken)
+
+judge-reservations-requires : tie.Need-judge-reservations-requires
+judge-reservations-requires c κs = search needs
+
+returns-2 : tie.Need-returns-2
+unfolding withSchedule
+returns-2 c =
+    let judged = c .before .before .before in
+    let dealt = judged .before .before .deal-all .ensures in
+    let links = judged .before .used .ensures in
+    let none : used (judged .before .before .before .args .site .links) < judged .before .before .deal-all .result .crowded = omega arith in
+    c .judge-reservations .ensures ∙ go-on _ _ _ links (dealt .crowded) (judged .if1 .left) _ _ (dealt .offsets none) (dealt .periods none)
+
+pub judge-spec : {M : Type 1} → statement M
+judge-spec =
+    tie.close
+    (tie.spec
+    deal-all-requires
+    used-requires
+    refusal-requires
+    returns
+    judge-reservations-requires
+    returns-2)

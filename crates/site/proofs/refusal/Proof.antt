@@ -1,0 +1,13 @@
+-- `refusal` gives the empty site beside the number and the place.
+use borrow.Author.Needs.{needs}
+use Rattle.site.proofs.refusal.Statement.{statement}
+use Rattle.site.proofs.refusal.Tie as tie
+
+empty-requires : tie.Need-empty-requires
+empty-requires c κs = search needs
+
+returns : tie.Need-returns
+returns c = rw (c .empty .ensures)
+
+pub refusal-spec : {M : Type 1} → statement M
+refusal-spec = tie.close (tie.spec empty-requires returns)

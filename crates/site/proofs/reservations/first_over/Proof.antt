@@ -1,0 +1,83 @@
+-- The loop has passed only links within their capacity, so the first one over it from i on is the first of all.
+use borrow.Author.Needs.{needs}
+use Prim.Native.Nat.{_-_, _≤_}
+use mathlib.Core.Path.{_≡_, sym, _∙_}
+use native.Mathlib.Nat.{sub-zero}
+use native.Mathlib.Omega.{arith}
+use Rattle.pinwheel.specs.Inner.{firstIn}
+use Rattle.pinwheel.proofs.Laws.Search.{first-hit, first-miss, first-end}
+use Rattle.site.specs.Schedule.{used}
+use Rattle.site.specs.Reservations.{over, firstOver}
+use Rattle.site.proofs.Laws.Reservations.{over-yes, over-no}
+use Rattle.site.proofs.reservations.first_over.Statement.{statement}
+use Rattle.site.proofs.reservations.first_over.Tie as tie
+
+abbrev Inv-loop : tie.InvT-loop
+Inv-loop site links loads i₀ i = (links ≤ 63) × (i ≤ links) × (firstOver site ≡ firstIn (over site) links i)
+
+abbrev μ-loop : tie.MeasureT-loop
+μ-loop site links loads i₀ i = links - i
+
+used-requires : tie.Need-used-requires Inv-loop μ-loop
+used-requires c κs = tt
+
+loads-of-requires : tie.Need-loads-of-requires Inv-loop μ-loop
+loads-of-requires c κs = tt
+
+loop-holds : tie.Need-loop-holds Inv-loop μ-loop
+unfolding used firstOver
+loop-holds c = (omega (arith, c .before .used .ensures), search needs, rw (c .before .used .ensures, sub-zero))
+
+mul-if1 : tie.Need-mul-if1 Inv-loop μ-loop
+mul-if1 c = search needs
+
+element-copy-out-if1 : tie.Need-element-copy-out-if1 Inv-loop μ-loop
+element-copy-out-if1 c = search needs
+
+cast-if1 : tie.Need-cast-if1 Inv-loop μ-loop
+cast-if1 c = search needs
+
+mul-if1-2 : tie.Need-mul-if1-2 Inv-loop μ-loop
+mul-if1-2 c = search needs
+
+array-read-if1 : tie.Need-array-read-if1 Inv-loop μ-loop
+array-read-if1 c = search needs
+
+returns : tie.Need-returns Inv-loop μ-loop
+returns c =
+    let is = c .before .before .before .before .loads-of .ensures .1 (c .before .before .before .loop .i) (omega arith) in
+    sym (c .before .before .before .loop .inv .2 ∙ first-hit _ _ _ (omega arith) (over-yes _ _ _ is (c .if1 .taken)))
+
+add-i : tie.Need-add-i Inv-loop μ-loop
+add-i c = search needs
+
+loop-less : tie.Need-loop-less Inv-loop μ-loop
+loop-less c = search needs
+
+loop-again : tie.Need-loop-again Inv-loop μ-loop
+loop-again c =
+    let is = c .before .before .before .before .loads-of .ensures .1 (c .before .before .before .loop .i) (omega arith) in
+    (omega arith, omega arith, c .before .before .before .loop .inv .2 ∙ first-miss _ _ _ (omega arith) (over-no _ _ _ is (c .if1 .left)))
+
+returns-2 : tie.Need-returns-2 Inv-loop μ-loop
+returns-2 c = sym (c .before .loop .inv .2 ∙ first-end _ _ _ (c .loop-test .left))
+
+pub first-over-spec : {M : Type 1} → statement M
+first-over-spec =
+    tie.close
+    (tie.spec
+    Inv-loop
+    μ-loop
+    used-requires
+    loads-of-requires
+    loop-holds
+    mul-if1
+    element-copy-out-if1
+    cast-if1
+    mul-if1-2
+    array-read-if1
+    returns
+    add-i
+    loop-less
+    loop-again
+    returns-2)

@@ -1,0 +1,12 @@
+-- The judged gaps are the wanted ones.
+use mathlib.Core.Path.{refl}
+use Rattle.site.specs.Reservations.{gapsJudged}
+use Rattle.site.proofs.reservations.gaps_judged.Statement.{statement}
+use Rattle.site.proofs.reservations.gaps_judged.Tie as tie
+
+returns : tie.Need-returns
+unfolding gapsJudged
+returns c = refl
+
+pub gaps-judged-spec : {M : Type 1} → statement M
+gaps-judged-spec = tie.close (tie.spec returns)

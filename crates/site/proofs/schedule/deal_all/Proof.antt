@@ -1,0 +1,90 @@
+-- `deal_all` goes through the parents: those passed are not crowded and their children have their entries. It stops at the first crowded one.
+use borrow.Author.Needs.{needs}
+use Prim.Native.Nat.{_+_, _-_}
+use mathlib.Core.Logic.{⊎-elim}
+use native.Mathlib.Omega.{arith}
+use Rattle.site.proofs.Laws.Schedule.{Dealing, dealing-start, dealing-none, dealing-more, dealing-crowded, dealing-end}
+use Rattle.site.proofs.schedule.deal_all.Statement.{statement}
+use Rattle.site.proofs.schedule.deal_all.Tie as tie
+
+abbrev Inv-loop : tie.InvT-loop
+Inv-loop site n offsets₀ periods₀ p₀ offsets periods p = Dealing site p offsets periods
+
+abbrev μ-loop : tie.MeasureT-loop
+μ-loop site n offsets₀ periods₀ p₀ offsets periods p = n + 1 - p
+
+used-requires : tie.Need-used-requires Inv-loop μ-loop
+used-requires c κs = search needs
+
+zeros-requires : tie.Need-zeros-requires Inv-loop μ-loop
+zeros-requires c κs = search needs
+
+zeros-requires-2 : tie.Need-zeros-requires-2 Inv-loop μ-loop
+zeros-requires-2 c κs = search needs
+
+loop-holds : tie.Need-loop-holds Inv-loop μ-loop
+loop-holds c = dealing-start _ _ _ (c .before .zeros .ensures) (c .zeros2 .ensures)
+
+cast-deal-under : tie.Need-cast-deal-under Inv-loop μ-loop
+cast-deal-under c = search needs
+
+deal-under-requires : tie.Need-deal-under-requires Inv-loop μ-loop
+deal-under-requires c κs = search needs
+
+cast-spread : tie.Need-cast-spread Inv-loop μ-loop
+cast-spread c = search needs
+
+spread-requires : tie.Need-spread-requires Inv-loop μ-loop
+spread-requires c κs = search needs
+
+cast-spread-2 : tie.Need-cast-spread-2 Inv-loop μ-loop
+cast-spread-2 c = search needs
+
+spread-requires-2 : tie.Need-spread-requires-2 Inv-loop μ-loop
+spread-requires-2 c κs = search needs
+
+add-p : tie.Need-add-p Inv-loop μ-loop
+add-p c = search needs
+
+loop-less : tie.Need-loop-less Inv-loop μ-loop
+loop-less c = search needs
+
+loop-again : tie.Need-loop-again Inv-loop μ-loop
+loop-again c =
+    let turn = c .before .before in
+    let sofar = turn .before .before .loop .inv in
+    let dealt = turn .deal-under .ensures in
+    ⊎-elim
+    (λ w. rw (w .7, w .8) (dealing-more _ _ _ _ sofar (search needs) _ _ _ _ dealt (w .2 .left) _ _ (w .5 .ensures) (w .6 .ensures)))
+    (λ w. rw (w .1, w .2) (dealing-none _ _ _ _ sofar (search needs) _ _ _ _ dealt (omega arith)))
+    (c .if1 .came)
+
+returns : tie.Need-returns Inv-loop μ-loop
+returns c = dealing-end _ _ _ _ (c .before .loop .inv) (search needs)
+
+returns-2 : tie.Need-returns-2 Inv-loop μ-loop
+returns-2 c =
+    let turn = c .before .before .before .before in
+    dealing-crowded _ _ _ _ (turn .before .before .loop .inv) (search needs) _ _ _ _ (turn .deal-under .ensures) (search needs) (c .if2 .taken)
+
+pub deal-all-spec : {M : Type 1} → statement M
+deal-all-spec =
+    tie.close
+    (tie.spec
+    Inv-loop
+    μ-loop
+    used-requires
+    zeros-requires
+    zeros-requires-2
+    loop-holds
+    cast-deal-under
+    deal-under-requires
+    cast-spread
+    spread-requires
+    cast-spread-2
+    spread-requires-2
+    add-p
+    loop-less
+    loop-again
+    returns
+    returns-2)

@@ -1,0 +1,59 @@
+-- 01, "Reservations": what live flows keep on the links of their routes.
+use Prim.Native.Nat.{ℕ, zero, suc, _+_, _*_}
+use mathlib.Core.Bool.{Bool, cond, _&&_}
+use mathlib.Core.List.{List, [], _∷_}
+use lib.Dec.{ltb}
+use lib.ListN.{getD}
+use Rattle.pinwheel.specs.Search.{first}
+use Rattle.site.specs.declared.Site.{Site}
+use Rattle.site.specs.Sites.{ofLink, live}
+use Rattle.site.specs.Tree.{route, has}
+use Rattle.site.specs.Schedule.{used}
+
+-- The gaps that widths and the sums of 12 and 13 go by: the wanted gaps. Request U2 makes them the periods.
+unfoldable pub gapsJudged : Site → List ℕ
+gapsJudged s = s .gaps
+
+-- The route of the flow with number n.
+unfoldable pub routeOf : Site → ℕ → List ℕ
+routeOf s n = route (s .parents) (getD (s .entries) n 0)
+
+-- 01, "On each link of its route a flow reserves a width of rate × wanted gap": on the link of node m, at this rate.
+unfoldable pub widthAt : List ℕ → ℕ → ℕ → ℕ
+widthAt gaps rate m = rate * ofLink gaps m
+
+-- What flow n keeps of the link of node m.
+unfoldable pub widthOn : Site → ℕ → ℕ → ℕ
+widthOn s m n = cond (live s n && has m (routeOf s n)) (widthAt (gapsJudged s) (getD (s .rates) n 0) m) 0
+
+-- The sum of f over the numbers below k.
+unfoldable pub sumTo : (ℕ → ℕ) → ℕ → ℕ
+sumTo f zero = 0
+sumTo f (suc k) = sumTo f k + f k
+
+-- The sum of the widths on the link of node m.
+unfoldable pub load : Site → ℕ → ℕ
+load s m = sumTo (widthOn s m) 64
+
+-- 01, 12: the link at index i has widths above its capacity, and the first such index.
+unfoldable pub over : Site → ℕ → Bool
+over s i = ltb (getD (s .capacities) i 0) (load s (i + 1))
+
+unfoldable pub firstOver : Site → ℕ
+firstOver s = first (over s) (used (s .links)) 0
+
+-- The sum of a list of links over a route.
+unfoldable pub along : List ℕ → List ℕ → ℕ
+along xs [] = 0
+along xs (m ∷ ms) = ofLink xs m + along xs ms
+
+-- 01, 13: a live flow's judged gaps sum to more than its deadline, and the first such flow.
+unfoldable pub late : Site → ℕ → Bool
+late s n = live s n && ltb (getD (s .deadlines) n 0) (along (gapsJudged s) (routeOf s n))
+
+unfoldable pub firstLate : Site → ℕ
+firstLate s = first (late s) 64 0
+
+-- 01, "G is the sum of their periods".
+unfoldable pub delayBound : Site → ℕ → ℕ
+delayBound s n = along (s .periods) (routeOf s n)

@@ -1,0 +1,70 @@
+-- Sites as values. A link is named by its node's number n and has the index n - 1 in every list of links; a flow's index is its number.
+use Prim.Native.Nat.{ℕ, zero, suc}
+use mathlib.Core.Bool.{Bool}
+use mathlib.Core.List.{List}
+use lib.Dec.{eqb}
+use lib.ListN.{getD, set, replicate}
+use Rattle.site.specs.declared.Site.{Site}
+use Rattle.site.specs.declared.Flow.{Flow}
+
+-- 01, "a refused reading gives the empty site": no links, no flows, every entry 0.
+abbrev pub emptySite : Site
+emptySite = record {
+  links = 0;
+  parents = replicate 63 0;
+  capacities = replicate 63 0;
+  gaps = replicate 63 0;
+  offsets = replicate 63 0;
+  periods = replicate 63 0;
+  states = replicate 64 0;
+  entries = replicate 64 0;
+  rates = replicate 64 0;
+  deadlines = replicate 64 0;
+}
+
+-- What a list of links holds for the link of node n; the root has no link.
+unfoldable pub ofLink : List ℕ → ℕ → ℕ
+ofLink xs zero = 0
+ofLink xs (suc i) = getD xs i 0
+
+-- 01, "A flow is live from its FLOW or its accepted admission until its accepted release": its state is 1.
+unfoldable pub live : Site → ℕ → Bool
+live s n = eqb (getD (s .states) n 0) 1
+
+-- The site with these fields at one flow number.
+abbrev pub withFields : Site → ℕ → ℕ → ℕ → ℕ → ℕ → Site
+withFields s n state entry rate deadline = record {
+  links = s .links;
+  parents = s .parents;
+  capacities = s .capacities;
+  gaps = s .gaps;
+  offsets = s .offsets;
+  periods = s .periods;
+  states = set (s .states) n state;
+  entries = set (s .entries) n entry;
+  rates = set (s .rates) n rate;
+  deadlines = set (s .deadlines) n deadline;
+}
+
+-- The site with a live flow more.
+unfoldable pub withFlow : Site → Flow → Site
+withFlow s f = withFields s (f .number) 1 (f .entry) (f .rate) (f .deadline)
+
+-- The site without the flow of that number.
+unfoldable pub withoutFlow : Site → ℕ → Site
+withoutFlow s n = withFields s n 0 0 0 0
+
+-- The site with another schedule.
+unfoldable pub withSchedule : Site → List ℕ → List ℕ → Site
+withSchedule s os ps = record {
+  links = s .links;
+  parents = s .parents;
+  capacities = s .capacities;
+  gaps = s .gaps;
+  offsets = os;
+  periods = ps;
+  states = s .states;
+  entries = s .entries;
+  rates = s .rates;
+  deadlines = s .deadlines;
+}

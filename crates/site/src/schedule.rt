@@ -1,0 +1,145 @@
+// The slot rule under every parent.
+use crate::Site;
+use pinwheel::Answer;
+ghost use mathlib.Core.Path.{_≡_};
+ghost use lib.ListN.{replicate};
+ghost use Rattle.pinwheel.specs.Deal.{outcome};
+ghost use Rattle.site.specs.Schedule.{baseOf, baseUnder};
+ghost use Rattle.site.specs.Inner.{GapsOf, DealtTo, Spread, SlotsOf};
+
+// How many links a site has, whatever its count says.
+pub(crate) fn used(links: u8) -> usize
+    ensures { λ r. ⌜ r ≡ Rattle.site.specs.Schedule.used links ⌝ }
+{
+    if 63 < links {
+        return 63;
+    }
+    links as usize
+}
+
+fn zeros() -> [u16; 63]
+    ensures { λ r. ⌜ r ≡ replicate 63 0 ⌝ }
+{
+    [0; 63]
+}
+
+// The gaps that the children of one parent want, in the first `count` places.
+struct Wanted {
+    count: usize,
+    gaps: [u16; 63],
+}
+
+fn gaps_under(site: Site, parent: u8) -> Wanted
+    ensures { λ r. ⌜ GapsOf site parent (r .count) (r .gaps) ⌝ }
+{
+    let n = used(site.links);
+    let mut gaps = zeros();
+    let mut count = 0;
+    let mut i = 0;
+    while i < n {
+        if site.parents[i] == parent {
+            gaps[count] = site.gaps[i];
+            count += 1;
+        }
+        i += 1;
+    }
+    Wanted { count, gaps }
+}
+
+fn base_in(answer: Answer) -> u16
+    ensures { λ r. ⌜ r ≡ baseOf (outcome answer) ⌝ }
+{
+    match answer {
+        Answer::Base(base) => base,
+        Answer::Refused(_number, _place) => 0,
+    }
+}
+
+// The base that the slot rule finds for the children of one parent, 0 where it refuses them, and what it deals them, in the
+// first `count` places.
+struct Dealt {
+    base: u16,
+    count: usize,
+    offsets: [u16; 63],
+    periods: [u16; 63],
+}
+
+fn deal_under(site: Site, parent: u8) -> Dealt
+    ensures { λ r. ⌜ DealtTo site parent (r .base) (r .count) (r .offsets) (r .periods) ⌝ }
+{
+    let wanted = gaps_under(site, parent);
+    let n = wanted.count;
+    let gaps = wanted.gaps;
+    let mut offsets = zeros();
+    let mut periods = zeros();
+    let answer = pinwheel::deal(&gaps[..n], &mut offsets[..n], &mut periods[..n]);
+    let base = base_in(answer);
+    Dealt {
+        base,
+        count: n,
+        offsets,
+        periods,
+    }
+}
+
+// The base that the slot rule finds for the children of a parent, 0 where it refuses them.
+pub fn base_under(site: Site, parent: u8) -> u16
+    ensures { λ r. ⌜ r ≡ baseUnder site parent ⌝ }
+{
+    let dealt = deal_under(site, parent);
+    dealt.base
+}
+
+// Hands the values, in their order, to the children of one parent.
+fn spread(site: Site, parent: u8, values: [u16; 63], list: [u16; 63]) -> [u16; 63]
+    ensures { λ r. ⌜ Spread site parent values list r ⌝ }
+{
+    let n = used(site.links);
+    let mut next = list;
+    let mut k = 0;
+    let mut i = 0;
+    while i < n {
+        if site.parents[i] == parent {
+            next[i] = values[k];
+            k += 1;
+        }
+        i += 1;
+    }
+    next
+}
+
+// A schedule for all links, and the first crowded parent; one above the last link where there is none.
+pub(crate) struct Slots {
+    pub crowded: usize,
+    pub offsets: [u16; 63],
+    pub periods: [u16; 63],
+}
+
+pub(crate) fn deal_all(site: Site) -> Slots
+    ensures { λ r. ⌜ SlotsOf site (r .crowded) (r .offsets) (r .periods) ⌝ }
+{
+    let n = used(site.links);
+    let mut offsets = zeros();
+    let mut periods = zeros();
+    let mut p: usize = 0;
+    while p <= n {
+        let dealt = deal_under(site, p as u8);
+        if 0 < dealt.count {
+            if dealt.base == 0 {
+                break;
+            }
+            let child_offsets = dealt.offsets;
+            let child_periods = dealt.periods;
+            let next_offsets = spread(site, p as u8, child_offsets, offsets);
+            let next_periods = spread(site, p as u8, child_periods, periods);
+            offsets = next_offsets;
+            periods = next_periods;
+        }
+        p += 1;
+    }
+    Slots {
+        crowded: p,
+        offsets,
+        periods,
+    }
+}

@@ -1,0 +1,45 @@
+// The way from a node up to the root.
+ghost use mathlib.Core.Path.{_≡_};
+ghost use Prim.Native.Nat.{_≤_};
+ghost use lib.ListN.{length};
+ghost use Rattle.site.specs.Sites.{ofLink};
+ghost use Rattle.site.specs.Tree.{up, depthOf};
+
+// The parent of a node; the root, and a number that no node has, are their own.
+pub(crate) fn parent_of(parents: &[u8], node: u8) -> u8
+    ensures { λ r. ⌜ r ≡ up (now (parents .entry)) node ⌝ }
+{
+    if node == 0 {
+        return 0;
+    }
+    let i = (node - 1) as usize;
+    if parents.len() <= i {
+        return node;
+    }
+    parents[i]
+}
+
+// The entry of a node's link; the root, and a number that no link has, have 0.
+pub(crate) fn value_of(values: &[u16], node: u8) -> u16
+    ensures { λ r. ⌜ r ≡ ofLink (now (values .entry)) node ⌝ }
+{
+    if node == 0 {
+        return 0;
+    }
+    let i = (node - 1) as usize;
+    if values.len() <= i {
+        return 0;
+    }
+    values[i]
+}
+
+// 01: one more than the parent's depth. It calls itself on the parent, whose number is smaller.
+pub fn depth(parents: &[u8], node: u8) -> u8
+    ensures { λ r. ⌜ r ≡ depthOf (now (parents .entry)) node ⌝ }
+{
+    let parent = parent_of(parents, node);
+    if node <= parent {
+        return 0;
+    }
+    depth(parents, parent) + 1
+}
