@@ -38,15 +38,15 @@ fn add_widths(gaps: &[u16], parents: &[u8], entry: u8, rate: u8, loads: &mut [u3
     requires { ⌜ (length (now loads) ≡ length (now parents)) × ((i : ℕ) → getD (now loads) i 0 ≤ 4000000000) ⌝ }
     ensures { λ _. ⌜ now (loads .exit) ≡ carried (now (gaps .entry)) rate (route (now (parents .entry)) entry) (now (loads .entry)) ⌝ }
 {
-    let mut n = entry;
+    let mut node = entry;
     loop {
-        let parent = parent_of(parents, n);
-        if n <= parent {
+        let parent = parent_of(parents, node);
+        if node <= parent {
             return;
         }
-        let i = (n - 1) as usize;
-        loads[i] += rate as u32 * value_of(gaps, n) as u32;
-        n = parent;
+        let i = (node - 1) as usize;
+        loads[i] += rate as u32 * value_of(gaps, node) as u32;
+        node = parent;
     }
 }
 

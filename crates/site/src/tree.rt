@@ -1,7 +1,5 @@
 // The way from a node up to the root.
 ghost use mathlib.Core.Path.{_≡_};
-ghost use Prim.Native.Nat.{_≤_};
-ghost use lib.ListN.{length};
 ghost use Rattle.site.specs.Sites.{ofLink};
 ghost use Rattle.site.specs.Tree.{up, depthOf};
 

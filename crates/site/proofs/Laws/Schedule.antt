@@ -22,6 +22,10 @@ use Rattle.site.specs.Schedule.{used, kept, gapsFrom, gapsUnder, rank, d
 use Rattle.site.specs.Schedule.{entryDealt, listed, offsetsDealt, periodsDealt}
 use Rattle.site.specs.Inner.{GapsOf, DealtTo, Spread, SlotsOf}
 
+-- The gaps wanted by p's children among the r links from index i on.
+abbrev gapsIn : Site → ℕ → ℕ → ℕ → List ℕ
+gapsIn s p r i = gapsFrom (s .parents) (s .gaps) p r i
+
 kept-append : (t : Bool) (x : ℕ) (xs ys : List ℕ) → kept t x (xs ++ ys) ≡ kept t x xs ++ ys
 kept-append true x xs ys = refl
 kept-append false x xs ys = refl
@@ -32,42 +36,42 @@ kept-length false x xs r l = omega arith
 
 module _ (s : Site) (p : ℕ) where
   -- The gaps of the a + b links from i on are those of the first a and those of the b after them.
-  gaps-append : (a b i : ℕ) → gapsFrom (s .parents) (s .gaps) p (a + b) i ≡ gapsFrom (s .parents) (s .gaps) p a i ++ gapsFrom (s .parents) (s .gaps) p b (i + a)
+  gaps-append : (a b i : ℕ) → gapsIn s p (a + b) i ≡ gapsIn s p a i ++ gapsIn s p b (i + a)
   unfolding gapsFrom
   gaps-append zero b i = rw (zero-add, add-zero)
   gaps-append (suc a) b i =
       let e : i + suc a ≡ i + 1 + a = omega arith in
       rw (suc-add a b, e)
       (ap (kept (eqb (getD (s .parents) i 0) p) (getD (s .gaps) i 0)) (gaps-append a b (i + 1))
-      ∙ kept-append (eqb (getD (s .parents) i 0) p) (getD (s .gaps) i 0) (gapsFrom (s .parents) (s .gaps) p a (i + 1)) (gapsFrom (s .parents) (s .gaps) p b (i + 1 + a)))
+      ∙ kept-append (eqb (getD (s .parents) i 0) p) (getD (s .gaps) i 0) (gapsIn s p a (i + 1)) (gapsIn s p b (i + 1 + a)))
 
-  gaps-length : (r i : ℕ) → length (gapsFrom (s .parents) (s .gaps) p r i) ≤ r
+  gaps-length : (r i : ℕ) → length (gapsIn s p r i) ≤ r
   unfolding gapsFrom
   gaps-length zero i = omega arith
-  gaps-length (suc r) i = kept-length (eqb (getD (s .parents) i 0) p) (getD (s .gaps) i 0) (gapsFrom (s .parents) (s .gaps) p r (i + 1)) r (gaps-length r (i + 1))
+  gaps-length (suc r) i = kept-length (eqb (getD (s .parents) i 0) p) (getD (s .gaps) i 0) (gapsIn s p r (i + 1)) r (gaps-length r (i + 1))
 
   -- From the link at index i on: a child's gap goes in front, another link's does not.
-  gaps-child : (r i : ℕ) → getD (s .parents) i 0 ≡ p → gapsFrom (s .parents) (s .gaps) p (suc r) i ≡ getD (s .gaps) i 0 ∷ gapsFrom (s .parents) (s .gaps) p r (i + 1)
+  gaps-child : (r i : ℕ) → getD (s .parents) i 0 ≡ p → gapsIn s p (suc r) i ≡ getD (s .gaps) i 0 ∷ gapsIn s p r (i + 1)
   unfolding gapsFrom
   gaps-child r i e = rw (eq-eqb _ _ e)
 
-  gaps-other : (r i : ℕ) → (getD (s .parents) i 0 ≡ p → ⊥) → gapsFrom (s .parents) (s .gaps) p (suc r) i ≡ gapsFrom (s .parents) (s .gaps) p r (i + 1)
+  gaps-other : (r i : ℕ) → (getD (s .parents) i 0 ≡ p → ⊥) → gapsIn s p (suc r) i ≡ gapsIn s p r (i + 1)
   unfolding gapsFrom
   gaps-other r i n = rw (ne-eqb _ _ n)
 
   -- A child's gap stands behind those of the children before it.
   gaps-split : (n i : ℕ) → i < n → getD (s .parents) i 0 ≡ p
-      → gapsFrom (s .parents) (s .gaps) p n 0 ≡ gapsFrom (s .parents) (s .gaps) p i 0 ++ (getD (s .gaps) i 0 ∷ gapsFrom (s .parents) (s .gaps) p (n - (i + 1)) (i + 1))
+      → gapsIn s p n 0 ≡ gapsIn s p i 0 ++ (getD (s .gaps) i 0 ∷ gapsIn s p (n - (i + 1)) (i + 1))
   gaps-split n i l e =
       let n-is : n ≡ i + suc (n - (i + 1)) = omega arith in
-      ap (λ (m : ℕ). gapsFrom (s .parents) (s .gaps) p m 0) n-is ∙ gaps-append i (suc (n - (i + 1))) 0 ∙ rw (zero-add, gaps-child (n - (i + 1)) i e)
+      ap (λ (m : ℕ). gapsIn s p m 0) n-is ∙ gaps-append i (suc (n - (i + 1))) 0 ∙ rw (zero-add, gaps-child (n - (i + 1)) i e)
 
   -- One link more.
-  gaps-more-child : (i : ℕ) → getD (s .parents) i 0 ≡ p → gapsFrom (s .parents) (s .gaps) p (i + 1) 0 ≡ gapsFrom (s .parents) (s .gaps) p i 0 ++ (getD (s .gaps) i 0 ∷ [])
+  gaps-more-child : (i : ℕ) → getD (s .parents) i 0 ≡ p → gapsIn s p (i + 1) 0 ≡ gapsIn s p i 0 ++ (getD (s .gaps) i 0 ∷ [])
   unfolding gapsFrom
   gaps-more-child i e = gaps-append i 1 0 ∙ rw (zero-add, gaps-child 0 i e)
 
-  gaps-more-other : (i : ℕ) → (getD (s .parents) i 0 ≡ p → ⊥) → gapsFrom (s .parents) (s .gaps) p (i + 1) 0 ≡ gapsFrom (s .parents) (s .gaps) p i 0
+  gaps-more-other : (i : ℕ) → (getD (s .parents) i 0 ≡ p → ⊥) → gapsIn s p (i + 1) 0 ≡ gapsIn s p i 0
   unfolding gapsFrom
   gaps-more-other i n = gaps-append i 1 0 ∙ rw (zero-add, gaps-other 0 i n, append-nil)
 
@@ -81,7 +85,7 @@ pub record Collected (s : Site) (p i count : ℕ) (gaps : List ℕ) : Type 0 whe
   pub links : used (s .links) ≤ 63
   pub long : length gaps ≡ 63
   pub few : count ≤ i
-  pub are : take count gaps ≡ gapsFrom (s .parents) (s .gaps) p i 0
+  pub are : take count gaps ≡ gapsIn s p i 0
 
 module _ (s : Site) (p : ℕ) where
   pub collected-start : (gaps : List ℕ) → length gaps ≡ 63 → Collected s p 0 0 gaps
@@ -125,7 +129,7 @@ module _ (s : Site) (p : ℕ) where
   unfolding rank gapsUnder
   child-gap i l e =
       let split = gaps-split s p (used (s .links)) i l e in
-      (rw (split, length-append) (omega arith), rw split (getD-append-seam (gapsFrom (s .parents) (s .gaps) p i 0) (getD (s .gaps) i 0) _ 0))
+      (rw (split, length-append) (omega arith), rw split (getD-append-seam (gapsIn s p i 0) (getD (s .gaps) i 0) _ 0))
 
   rank-other : (i : ℕ) → (getD (s .parents) i 0 ≡ p → ⊥) → rank s p (i + 1) ≡ rank s p i
   unfolding rank
@@ -416,11 +420,11 @@ kept-limits false x xs h each k l = each k l
 
 module _ (s : Site) (p : ℕ) where
   gaps-limits : (r i : ℕ) → ((j : ℕ) → j < i + r → InLimits (getD (s .gaps) j 0))
-      → (k : ℕ) → k < length (gapsFrom (s .parents) (s .gaps) p r i) → InLimits (getD (gapsFrom (s .parents) (s .gaps) p r i) k 0)
+      → (k : ℕ) → k < length (gapsIn s p r i) → InLimits (getD (gapsIn s p r i) k 0)
   unfolding gapsFrom
   gaps-limits zero i h k l = absurd (omega arith)
   gaps-limits (suc r) i h k l =
-      kept-limits (eqb (getD (s .parents) i 0) p) (getD (s .gaps) i 0) (gapsFrom (s .parents) (s .gaps) p r (i + 1)) (h i (omega arith))
+      kept-limits (eqb (getD (s .parents) i 0) p) (getD (s .gaps) i 0) (gapsIn s p r (i + 1)) (h i (omega arith))
       (gaps-limits r (i + 1) (λ j m. h j (omega arith))) k l
 
   abbrev zeros : List ℕ

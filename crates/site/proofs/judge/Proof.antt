@@ -19,7 +19,9 @@ refusal-requires : tie.Need-refusal-requires
 refusal-requires c κs = search needs
 
 returns : tie.Need-returns
-returns c = c .refusal .ensures ∙ refuse-crowded _ _ _ (c .before .before .used .ensures) (c .before .before .before .deal-all .ensures .crowded) (c .before .if1 .taken)
+returns c =
+    let judged = c .before in
+    c .refusal .ensures ∙ refuse-crowded _ _ _ (judged .before .used .ensures) (judged .before .before .deal-all .ensures .crowded) (judged .if1 .taken)
 
 judge-reservations-requires : tie.Need-judge-reservations-requires
 judge-reservations-requires c κs = search needs

@@ -1,7 +1,6 @@
 -- `judge_reservations` asks for the first link that is over, then for the first flow that is late, and passes on the site itself where there is none.
 use borrow.Author.Needs.{needs}
 use mathlib.Core.Path.{_∙_}
-use native.Mathlib.Omega.{arith}
 use Rattle.site.proofs.Laws.Rulings.{refuse-over, refuse-late, accept-reserved}
 use Rattle.site.proofs.judge_reservations.Statement.{statement}
 use Rattle.site.proofs.judge_reservations.Tie as tie
@@ -19,7 +18,9 @@ refusal-requires : tie.Need-refusal-requires
 refusal-requires c κs = search needs
 
 returns : tie.Need-returns
-returns c = c .refusal .ensures ∙ refuse-over _ _ _ (c .before .before .used .ensures) (c .before .before .before .first-over .ensures) (c .before .if1 .taken)
+returns c =
+    let judged = c .before in
+    c .refusal .ensures ∙ refuse-over _ _ _ (judged .before .used .ensures) (judged .before .before .first-over .ensures) (judged .if1 .taken)
 
 first-late-requires : tie.Need-first-late-requires
 first-late-requires c κs = search needs
@@ -36,7 +37,8 @@ returns-2 c =
 returns-3 : tie.Need-returns-3
 returns-3 c =
     let judged = c .before .before in
-    accept-reserved _ _ _ (judged .before .used .ensures) (judged .before .before .first-over .ensures) (judged .if1 .left) _ (c .before .first-late .ensures) (c .if2 .left)
+    accept-reserved _ _ _ (judged .before .used .ensures) (judged .before .before .first-over .ensures) (judged .if1 .left) _
+    (c .before .first-late .ensures) (c .if2 .left)
 
 pub judge-reservations-spec : {M : Type 1} → statement M
 judge-reservations-spec =

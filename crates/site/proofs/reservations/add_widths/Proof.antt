@@ -8,10 +8,10 @@ use Rattle.site.proofs.reservations.add_widths.Statement.{statement}
 use Rattle.site.proofs.reservations.add_widths.Tie as tie
 
 abbrev Inv-loop : tie.InvT-loop
-Inv-loop gaps parents entry rate loads₀ n₀ loads n = Carrying gaps parents rate entry loads₀ loads n
+Inv-loop gaps parents entry rate loads₀ node₀ loads node = Carrying gaps parents rate entry loads₀ loads node
 
 abbrev μ-loop : tie.MeasureT-loop
-μ-loop gaps parents entry rate loads₀ n₀ loads n = n
+μ-loop gaps parents entry rate loads₀ node₀ loads node = node
 
 width : (c : tie.After-value-of Inv-loop μ-loop)
     → c .before .before .before .before .before .before .before .args .rate * c .value-of .result ≤ 16711425

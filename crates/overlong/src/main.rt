@@ -1,0 +1,4 @@
+// `slotplan` on an input that is longer than its buffer.
+fn main() {
+    report::print_input();
+}

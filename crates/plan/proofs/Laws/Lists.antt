@@ -1,0 +1,76 @@
+-- Lists that are filled from the front, and items written one after the other.
+use Prim.Native.Nat.{ℕ, zero, suc, _+_, _-_, _<_, _≤_}
+use mathlib.Core.Path.{_≡_, refl, sym, _∙_, ap}
+use mathlib.Core.List.{List, [], _++_}
+use mathlib.Core.Logic.{⊎-elim}
+use lib.ListN.{length, getD, take, set, replicate, length-append, length-replicate, getD-replicate, List·getD-eq-default, List·getD-append}
+use lib.Seq.{length-take-le, take-suc, append-snoc, getD-take, getD-append-add, set-at, set-getD, ext-getD}
+use native.Mathlib.Numerals.{add-one}
+use native.Mathlib.Omega.{arith}
+use Rattle.pinwheel.proofs.Laws.Search.{lt-or-le}
+use Rattle.plan.specs.Write.{joined}
+
+-- The list with 0 from index k on.
+unfoldable pub upto : ℕ → List ℕ → List ℕ
+upto k xs = take k xs ++ replicate (length xs - k) 0
+
+-- A list of zeros has 0 at every index.
+pub zeros-at : (n i : ℕ) → getD {A = ℕ} (replicate n 0) i 0 ≡ 0
+zeros-at n i = ⊎-elim (λ l. getD-replicate n i 0 0 l) (λ l. List·getD-eq-default (replicate n 0) 0 (rw length-replicate l)) (lt-or-le i n)
+
+module _ (xs : List ℕ) where
+  pub upto-long : (k : ℕ) → k ≤ length xs → length (upto k xs) ≡ length xs
+  unfolding upto
+  upto-long k h = rw (length-append (take k xs), length-take-le k xs h, length-replicate) (omega arith)
+
+  pub upto-below : (k i : ℕ) → k ≤ length xs → i < k → getD (upto k xs) i 0 ≡ getD xs i 0
+  unfolding upto
+  upto-below k i h l = List·getD-append (take k xs) _ 0 i (rw (length-take-le k xs h) l) ∙ getD-take k xs i 0 l
+
+  pub upto-above : (k i : ℕ) → k ≤ length xs → k ≤ i → getD (upto k xs) i 0 ≡ 0
+  unfolding upto
+  upto-above k i h l =
+      let e : i ≡ length (take k xs) + (i - k) = rw (length-take-le k xs h) (omega arith) in
+      ap (λ (m : ℕ). getD (upto k xs) m 0) e ∙ getD-append-add (take k xs) _ (i - k) 0 ∙ zeros-at (length xs - k) (i - k)
+
+  pub upto-none : upto 0 xs ≡ replicate (length xs) 0
+  unfolding upto
+  upto-none = let e : length xs - 0 ≡ length xs = omega arith in rw e
+
+  pub upto-more : (k : ℕ) → k < length xs → set (upto k xs) k (getD xs k 0) ≡ upto (k + 1) xs
+  unfolding upto
+  upto-more k h =
+      let e : length xs - k ≡ suc (length xs - suc k) = omega arith in
+      rw (add-one, e, take-suc xs k 0)
+      (set-at (take k xs) 0 (replicate (length xs - suc k) 0) (getD xs k 0) k (length-take-le k xs (omega arith)) ∙ simp append-snoc)
+
+  pub upto-skip : (k : ℕ) → k < length xs → getD xs k 0 ≡ 0 → upto (k + 1) xs ≡ upto k xs
+  upto-skip k h e =
+      sym (upto-more k h) ∙ ap (λ (v : ℕ). set (upto k xs) k v) (e ∙ sym (upto-above k k (omega arith) (omega arith))) ∙ set-getD (upto k xs) k 0
+
+  pub upto-all : (k : ℕ) → k ≤ length xs → ((i : ℕ) → k ≤ i → getD xs i 0 ≡ 0) → upto k xs ≡ xs
+  upto-all k h e =
+      ext-getD 0 (upto k xs) xs (upto-long k h)
+      (λ i l. ⊎-elim (λ m. upto-below k i h m) (λ m. upto-above k i h m ∙ sym (e i m)) (lt-or-le i k))
+
+module _ (item : ℕ → List ℕ) where
+  -- The next item, where some are left.
+  pub joined-next : (r i : ℕ) → 0 < r → joined item r i ≡ item i ++ joined item (r - 1) (i + 1)
+  unfolding joined
+  joined-next zero i h = absurd (omega arith)
+  joined-next (suc r) i h = let e : suc r - 1 ≡ r = omega arith in rw e
+
+  -- Items that are empty leave nothing.
+  pub joined-skip : (g r i : ℕ) → ((k : ℕ) → i ≤ k → k < i + g → item k ≡ []) → joined item (g + r) i ≡ joined item r (i + g)
+  unfolding joined
+  joined-skip zero r i e = let a : 0 + r ≡ r = omega arith in let b : i + 0 ≡ i = omega arith in rw (a, b)
+  joined-skip (suc g) r i e =
+      let a : suc g + r ≡ suc (g + r) = omega arith in
+      let b : i + suc g ≡ i + 1 + g = omega arith in
+      rw (a, b, e i (omega arith) (omega arith)) (joined-skip g r (i + 1) (λ k lo hi. e k (omega arith) (omega arith)))
+
+pub joined-same : (item other : ℕ → List ℕ) (r i : ℕ) → ((k : ℕ) → i ≤ k → k < i + r → item k ≡ other k) → joined item r i ≡ joined other r i
+unfolding joined
+joined-same item other zero i e = refl
+joined-same item other (suc r) i e =
+    rw (e i (omega arith) (omega arith), joined-same item other r (i + 1) (λ k lo hi. e k (omega arith) (omega arith)))

@@ -1,0 +1,96 @@
+-- Check 14 in its three parts: the form of nodes and flows, their judgement, and that the schedule is theirs.
+use mathlib.Core.Path.{_≡_, refl, sym, _∙_, ap}
+use mathlib.Core.Bool.{true, _&&_, and-assoc, false≢true}
+use mathlib.Core.Logic.{inl, inr, ⊎-elim, _↔_}
+use Rattle.site.specs.declared.Site.{Site}
+use Rattle.site.specs.Ruling.{Ruling, accepted, refused}
+use Rattle.site.specs.Sites.{withSchedule}
+use Rattle.site.specs.Schedule.{offsetsDealt, periodsDealt, scheduled}
+use Rattle.site.specs.Judge.{judgeOf}
+use Rattle.site.proofs.Laws.Schedule.{offsets-dealt-long, periods-dealt-long}
+use Rattle.site.proofs.Laws.Judge.{scheduled-bare, judge-bare, judge-gives}
+use Rattle.plan.specs.Check.{shaped, formed, same, accepts, stands, passesOf}
+use Rattle.plan.proofs.Laws.Words.{Formed}
+use Rattle.plan.proofs.Laws.Tests.{and-true}
+use Rattle.plan.proofs.Laws.Forms.{formed-when}
+use Rattle.plan.proofs.Laws.Check.{same-when}
+use Rattle.plan.proofs.Laws.Reading.{accept-same}
+
+-- The judgement accepts nothing but the site with its own schedule.
+accepts-when : (s : Site) → (accepts (judgeOf s .0) ≡ true) ↔ (judgeOf s ≡ (accepted, scheduled s))
+unfolding accepts
+accepts-when s = (go (judgeOf s) refl, λ e. rw e)
+  where
+    go : (r : Ruling × Site) → judgeOf s ≡ r → accepts (r .0) ≡ true → judgeOf s ≡ (accepted, scheduled s)
+    go (accepted, t) d q = d ∙ accept-same (judge-gives s t d)
+    go (refused number place, t) d q = absurd (false≢true q)
+
+-- A site has its own schedule just when both lists are those dealt.
+own-when : (s : Site) → (same (s .offsets) (offsetsDealt s) && same (s .periods) (periodsDealt s) ≡ true) ↔ (s ≡ scheduled s)
+unfolding scheduled withSchedule
+own-when s = (
+  λ e. let w = and-true _ _ e in rw (← same-when _ _ .0 (w .0), ← same-when _ _ .0 (w .1)),
+  λ e. rw (
+    same-when (s .offsets) (offsetsDealt s) .1 (ap (λ (t : Site). t .offsets) e),
+    same-when (s .periods) (periodsDealt s) .1 (ap (λ (t : Site). t .periods) e),
+  ),
+)
+
+-- Check 14 in three parts.
+pub passes-parts : (s : Site) → (passesOf s ≡ true) ↔ (Formed s × (judgeOf s ≡ (accepted, scheduled s)) × (s ≡ scheduled s))
+unfolding passesOf stands
+passes-parts s = (
+  λ e. let w = and-true (shaped s && formed s) _ (and-assoc (shaped s) (formed s) _ ∙ e) in let v = and-true _ _ (w .1) in
+      (formed-when s .0 (w .0), accepts-when s .0 (v .0), own-when s .0 (v .1)),
+  λ w. sym (and-assoc (shaped s) (formed s) _) ∙ rw (formed-when s .1 (w .0), accepts-when s .1 (w .1), own-when s .1 (w .2)),
+)
+
+-- Nothing in the form of nodes and flows looks at the schedule but the lengths of its lists.
+formed-scheduled : (s : Site) → Formed s → Formed (scheduled s)
+unfolding scheduled withSchedule
+formed-scheduled s g = record {
+  shape = record {
+    parents = g .shape .parents;
+    capacities = g .shape .capacities;
+    gaps = g .shape .gaps;
+    offsets = offsets-dealt-long s;
+    periods = periods-dealt-long s;
+    states = g .shape .states;
+    entries = g .shape .entries;
+    rates = g .shape .rates;
+    deadlines = g .shape .deadlines;
+  };
+  few = g .few;
+  nodes = λ i l. let f = g .nodes i l in record {
+    capacity-some = f .capacity-some;
+    capacity-most = f .capacity-most;
+    gap-some = f .gap-some;
+    gap-most = f .gap-most;
+    parent-below = f .parent-below;
+    depth-most = f .depth-most;
+  };
+  spare = λ i l. let f = g .spare i l in record { parent = f .parent; capacity = f .capacity; gap = f .gap };
+  flows = λ n. ⊎-elim
+      (λ f. inl (record { idle = f .idle; entry = f .entry; rate = f .rate; deadline = f .deadline }))
+      (λ f. inr (record {
+        live = f .live;
+        entry-some = f .entry-some;
+        entry-most = f .entry-most;
+        rate-some = f .rate-some;
+        rate-most = f .rate-most;
+        deadline-some = f .deadline-some;
+        deadline-most = f .deadline-most;
+      }))
+      (g .flows n);
+}
+
+-- What the judgement accepts passes check 14.
+pub judged-passes : (s : Site) → Formed s → judgeOf s ≡ (accepted, scheduled s) → passesOf (scheduled s) ≡ true
+unfolding scheduled withSchedule
+judged-passes s g e = passes-parts (scheduled s) .1 (formed-scheduled s g, bare ∙ e ∙ accept-same (sym again), sym again)
+  where
+    bare : judgeOf (scheduled s) ≡ judgeOf s
+    bare = judge-bare s (offsetsDealt s) (periodsDealt s)
+
+    again : scheduled (scheduled s) ≡ scheduled s
+    again = scheduled-bare s (offsetsDealt s) (periodsDealt s)

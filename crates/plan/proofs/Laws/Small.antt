@@ -1,0 +1,59 @@
+-- A plan's bytes are numbers of 8 bits.
+use Prim.Native.Nat.{ℕ, zero, suc, _+_, _/_, _<_, _≤_}
+use mathlib.Core.List.{List, [], _∷_, _++_}
+use mathlib.Core.Logic.{_⊎_, inl, inr}
+use native.Mathlib.Omega.{arith}
+use Rattle.site.specs.declared.Site.{Site}
+use Rattle.site.specs.Sites.{live}
+use Rattle.plan.specs.Bytes.{bytesOf}
+use Rattle.plan.specs.Write.{nodeBytes, flowBytes, flowIfLive, joined, planBytes}
+use Rattle.plan.proofs.Laws.Words.{Bytes, NodeFits, FlowFits, NoFlow, Formed}
+
+-- The same as a record, so that the prover finds the lists in a goal.
+record Small (bytes : List ℕ) : Type 0 where
+  each : Bytes bytes
+
+small-none : Small []
+small-none = record { each = λ i. omega arith }
+
+small-first : {x : ℕ} {xs : List ℕ} → x < 256 → Small xs → Small (x ∷ xs)
+small-first {x = x} {xs = xs} h w = record { each = go }
+  where
+    go : Bytes (x ∷ xs)
+    go zero = h
+    go (suc i) = w .each i
+
+small-append : {xs ys : List ℕ} → Small xs → Small ys → Small (xs ++ ys)
+small-append {xs = []} a b = b
+small-append {xs = x ∷ xs} a b = small-first (a .each 0) (small-append {xs = xs} (record { each = λ i. a .each (suc i) }) b)
+
+small-joined : (item : ℕ → List ℕ) (r i : ℕ) → ((k : ℕ) → k < i + r → Small (item k)) → Small (joined item r i)
+unfolding joined
+small-joined item zero i h = small-none
+small-joined item (suc r) i h = small-append (h i (omega arith)) (small-joined item r (i + 1) (λ k l. h k (omega arith)))
+
+small-number : (w v : ℕ) → Small (bytesOf w v)
+unfolding bytesOf
+small-number zero v = small-none
+small-number (suc w) v = small-first (omega arith) (small-number w (v / 256))
+
+small-node : (s : Site) (i : ℕ) → i < 63 → NodeFits s i → Small (nodeBytes s i)
+unfolding nodeBytes
+small-node s i h f =
+    small-first (omega arith) (small-first (omega (arith, f .parent-below)) (small-append (small-number 2 _) (small-number 2 _)))
+
+small-flow : (s : Site) (n : ℕ) → s .links ≤ 63 → n < 64 → NoFlow s n ⊎ FlowFits s n → Small (flowIfLive s n)
+unfolding flowIfLive flowBytes live
+small-flow s n few h (inl f) = rw (f .idle) small-none
+small-flow s n few h (inr f) = rw (f .live)
+    (small-first (omega arith) (small-first (omega arith) (small-first (omega (arith, f .entry-most))
+    (small-first (omega (arith, f .rate-most)) (small-number 2 _)))))
+
+pub plan-small : (s : Site) → Formed s → Bytes (planBytes s)
+unfolding planBytes
+plan-small s g = all .each
+  where
+    all : Small (planBytes s)
+    all =
+        small-append (small-joined (nodeBytes s) (s .links) 0 (λ i l. small-node s i (omega (arith, g .few)) (g .nodes i (omega arith))))
+        (small-append (small-joined (flowIfLive s) 64 0 (λ n l. small-flow s n (g .few) l (g .flows n))) (small-first (omega arith) small-none))

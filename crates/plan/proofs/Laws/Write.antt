@@ -1,0 +1,201 @@
+-- What the writers store, byte after byte and item after item.
+use Prim.Native.Nat.{ℕ, zero, suc, _+_, _-_, _*_, _≤_, _<_}
+use mathlib.Core.Path.{_≡_, refl, sym, _∙_, ap}
+use mathlib.Core.Bool.{Bool, true, false, not, cond}
+use mathlib.Core.List.{List, [], _∷_, _++_}
+use lib.ListN.{length, getD, set, drop, length-append, drop-of-length-le}
+use lib.Seq.{sets, length-sets, sets-eq, drop-cons}
+use borrow.Author.Tests.{lt-ltb, le-ltb, ne-eqb}
+use native.Mathlib.Nat.{zero-add}
+use native.Mathlib.Numerals.{add-one}
+use native.Mathlib.Omega.{arith}
+use Rattle.pinwheel.specs.Deal.{Outcome, accepted, refused}
+use Rattle.site.specs.declared.Site.{Site}
+use Rattle.site.specs.Sites.{live}
+use Rattle.plan.specs.Bytes.{bytesOf}
+use Rattle.plan.specs.Check.{passesOf}
+use Rattle.plan.specs.Write.{nodeBytes, flowBytes, linkBytes, joined, flowIfLive, planBytes, scheduleBytes, written, writtenIf}
+
+sets-append : (d : List ℕ) (at : ℕ) (xs ys : List ℕ) → sets d at (xs ++ ys) ≡ sets (sets d at xs) (at + length xs) ys
+sets-append d at [] ys = let e : at + 0 ≡ at = omega arith in rw e
+sets-append d at (x ∷ xs) ys =
+    let e : at + suc (length xs) ≡ suc at + length xs = omega arith in
+    rw e (sets-append (set d at x) (suc at) xs ys)
+
+-- n items are to be stored from `start` on, and those below i have been stored up to index `at`.
+pub record Passed (bytes : ℕ → List ℕ) (n start i at : ℕ) : Type 0 where
+  pub most : i ≤ n
+  pub place : at + length (joined bytes (n - i) i) ≡ start + length (joined bytes n 0)
+
+-- The items from i on.
+module _ (bytes : ℕ → List ℕ) (n : ℕ) where
+  rest : (i : ℕ) → i < n → joined bytes (n - i) i ≡ bytes i ++ joined bytes (n - (i + 1)) (i + 1)
+  unfolding joined
+  rest i l = let e : n - i ≡ suc (n - (i + 1)) = omega arith in rw e
+
+  none : (i : ℕ) → n ≤ i → joined bytes (n - i) i ≡ []
+  unfolding joined
+  none i l = let e : n - i ≡ 0 = omega arith in rw e
+
+module _ (bytes : ℕ → List ℕ) (n start : ℕ) where
+  pub passed-start : Passed bytes n start 0 start
+  passed-start = let e : n - 0 ≡ n = omega arith in record { most = omega arith; place = rw e }
+
+  module _ (i at : ℕ) (p : Passed bytes n start i at) where
+    passed-next : i < n → at + length (bytes i) + length (joined bytes (n - (i + 1)) (i + 1)) ≡ start + length (joined bytes n 0)
+    passed-next l = omega (arith, p .place, ap length (rest bytes n i l) ∙ length-append (bytes i) (joined bytes (n - (i + 1)) (i + 1)))
+
+    -- The next item fits where all fit.
+    passed-room : i < n → at + length (bytes i) ≤ start + length (joined bytes n 0)
+    passed-room l = omega (arith, passed-next l)
+
+    passed-more : (m : ℕ) → i < n → m ≡ at + length (bytes i) → Passed bytes n start (i + 1) m
+    passed-more m l e = record { most = omega arith; place = rw e (passed-next l) }
+
+    pub passed-end : n ≤ i → at ≡ start + length (joined bytes n 0)
+    passed-end l = omega (arith, p .place, ap length (none bytes n i l))
+
+-- And `out` is what the list d has become.
+pub record Stored (bytes : ℕ → List ℕ) (n start : ℕ) (d : List ℕ) (i at : ℕ) (out : List ℕ) : Type 0 where
+  pub passed : Passed bytes n start i at
+  pub long : length out ≡ length d
+  pub stores : sets out at (joined bytes (n - i) i) ≡ sets d start (joined bytes n 0)
+
+module _ (bytes : ℕ → List ℕ) (n start : ℕ) (d : List ℕ) where
+  pub stored-start : Stored bytes n start d 0 start d
+  stored-start = let e : n - 0 ≡ n = omega arith in record { passed = passed-start bytes n start; long = refl; stores = rw e }
+
+  module _ (i at : ℕ) (out : List ℕ) (s : Stored bytes n start d i at out) where
+    pub stored-more : (b new : List ℕ) (m : ℕ) → i < n → b ≡ bytes i → new ≡ sets out at b → m ≡ at + length b
+        → Stored bytes n start d (i + 1) m new
+    stored-more b new m l e q h = record {
+      passed = passed-more bytes n start i at (s .passed) m l (h ∙ ap (λ (x : List ℕ). at + length x) e);
+      long = rw q (length-sets out at b ∙ s .long);
+      stores = rw (q, h, e, ← sets-append out at (bytes i) (joined bytes (n - (i + 1)) (i + 1)), ← rest bytes n i l) (s .stores);
+    }
+
+    pub stored-end : n ≤ i → (out ≡ sets d start (joined bytes n 0)) × (at ≡ start + length (joined bytes n 0))
+    stored-end l = (ap (sets out at) (sym (none bytes n i l)) ∙ s .stores, passed-end bytes n start i at (s .passed) l)
+
+-- The entries of a list, one by one.
+abbrev pub entry : List ℕ → ℕ → List ℕ
+entry xs i = getD xs i 0 ∷ []
+
+entries-from : (xs : List ℕ) (r i : ℕ) → i + r ≡ length xs → joined (entry xs) r i ≡ drop i xs
+unfolding joined
+entries-from xs zero i e = let l : length xs ≤ i = omega arith in sym (drop-of-length-le xs l)
+entries-from xs (suc r) i e = rw (entries-from xs r (i + 1) (omega arith), drop-cons xs i 0 (omega arith), add-one)
+
+pub entries : (xs : List ℕ) (n : ℕ) → length xs ≡ n → joined (entry xs) n 0 ≡ xs
+entries xs n e = entries-from xs n 0 (omega arith)
+
+-- A flow's bytes: six where it is live, none where it is not.
+module _ (s : Site) (n : ℕ) where
+  pub live-bytes : getD (s .states) n 0 ≡ 1 → flowBytes s n ≡ flowIfLive s n
+  unfolding flowIfLive live
+  live-bytes e = simp e
+
+  pub idle-bytes : (getD (s .states) n 0 ≡ 1 → ⊥) → [] ≡ flowIfLive s n
+  unfolding flowIfLive live
+  idle-bytes e = simp (ne-eqb _ _ e)
+
+  live-six : getD (s .states) n 0 ≡ 1 → length (flowIfLive s n) ≡ 6
+  unfolding flowBytes bytesOf
+  live-six e = sym (ap length (live-bytes e))
+
+  module _ (start at : ℕ) (p : Passed (flowIfLive s) 64 start n at) (l : n < 64) where
+    -- A live flow fits where all fit.
+    pub live-room : getD (s .states) n 0 ≡ 1 → at + 6 ≤ start + length (joined (flowIfLive s) 64 0)
+    live-room e = omega (arith, passed-room (flowIfLive s) 64 start n at p l, live-six e)
+
+    pub passed-live : (m : ℕ) → getD (s .states) n 0 ≡ 1 → m ≡ at + 6 → Passed (flowIfLive s) 64 start (n + 1) m
+    passed-live m e q = passed-more (flowIfLive s) 64 start n at p m l (omega (arith, q, live-six e))
+
+    pub passed-idle : (m : ℕ) → (getD (s .states) n 0 ≡ 1 → ⊥) → m ≡ at → Passed (flowIfLive s) 64 start (n + 1) m
+    passed-idle m e q = passed-more (flowIfLive s) 64 start n at p m l (omega (arith, q, ap length (idle-bytes e)))
+
+  flow-few : length (flowIfLive s n) ≤ 6
+  unfolding flowIfLive flowBytes bytesOf
+  flow-few = go (live s n)
+    where
+      go : (t : Bool) → length (cond t (flowBytes s n) []) ≤ 6
+      go true = omega arith
+      go false = omega arith
+
+flows-from : (s : Site) (r n : ℕ) → length (joined (flowIfLive s) r n) ≤ 6 * r
+unfolding joined
+flows-from s zero n = omega arith
+flows-from s (suc r) n =
+    omega (arith, length-append (flowIfLive s n) (joined (flowIfLive s) r (n + 1)), flow-few s n, flows-from s r (n + 1))
+
+-- So the flows take 384 bytes at most.
+pub flows-few : (s : Site) → length (joined (flowIfLive s) 64 0) ≤ 384
+flows-few s = flows-from s 64 0
+
+-- Items of six bytes each.
+six-each : (bytes : ℕ → List ℕ) → ((i : ℕ) → length (bytes i) ≡ 6) → (r i : ℕ) → length (joined bytes r i) ≡ 6 * r
+unfolding joined
+six-each bytes h zero i = refl
+six-each bytes h (suc r) i = omega (arith, length-append (bytes i) (joined bytes r (i + 1)), h i, six-each bytes h r (i + 1))
+
+-- A writer's answers: the slice is too short, or all bytes are stored from its start on.
+module _ (bytes out : List ℕ) (n : ℕ) (size : n ≡ length bytes) where
+  pub written-short : length out < n → (refused 1 0, out) ≡ written bytes out
+  unfolding written
+  written-short l = simp (lt-ltb (length out) (length bytes) (omega arith))
+
+  pub written-all : (new : List ℕ) → n ≤ length out → new ≡ sets out 0 bytes → (accepted n, new) ≡ written bytes out
+  unfolding written
+  written-all new l q =
+      rw (q, size, le-ltb (length out) (length bytes) (omega arith), sets-eq bytes out 0 (omega arith), zero-add (length bytes))
+
+-- A plan: nodes, flows, FF.
+module _ (s : Site) where
+  abbrev nodes : List ℕ
+  nodes = joined (nodeBytes s) (s .links) 0
+
+  abbrev flows : List ℕ
+  flows = joined (flowIfLive s) 64 0
+
+  nodes-size : length nodes ≡ 6 * s .links
+  unfolding nodeBytes bytesOf
+  nodes-size = six-each (nodeBytes s) (λ i. refl) (s .links) 0
+
+  pub plan-size : (f : ℕ) → f ≡ length flows → 6 * s .links + f + 1 ≡ length (planBytes s)
+  unfolding planBytes
+  plan-size f e = simp (length-append, nodes-size) (omega arith)
+
+  pub plan-stored : (out a b : List ℕ) (end : ℕ) → a ≡ sets out 0 nodes → b ≡ sets a (6 * s .links) flows → end ≡ 6 * s .links + length flows
+      → set b end 255 ≡ sets out 0 (planBytes s)
+  unfolding planBytes
+  plan-stored out a b end p q e =
+      rw (sets-append out 0 nodes (flows ++ (255 ∷ [])), zero-add, nodes-size, ← p, sets-append a (6 * s .links) flows (255 ∷ []), ← q, ← e)
+
+-- A schedule: links, FF.
+module _ (offsets periods : List ℕ) (n : ℕ) where
+  links-size : length (joined (linkBytes offsets periods) n 0) ≡ 6 * n
+  unfolding linkBytes bytesOf
+  links-size = six-each (linkBytes offsets periods) (λ i. refl) n 0
+
+  pub schedule-size : 6 * n + 1 ≡ length (scheduleBytes n offsets periods)
+  unfolding scheduleBytes
+  schedule-size = simp (length-append, links-size)
+
+  pub schedule-stored : (out a : List ℕ) → a ≡ sets out 0 (joined (linkBytes offsets periods) n 0)
+      → set a (6 * n) 255 ≡ sets out 0 (scheduleBytes n offsets periods)
+  unfolding scheduleBytes
+  schedule-stored out a p = rw (sets-append out 0 (joined (linkBytes offsets periods) n 0) (255 ∷ []), zero-add, links-size, ← p)
+
+-- The answers of the two operations: 14, 9, and the writing itself.
+module _ (s : Site) (bytes out : List ℕ) (t : Bool) (passes : t ≡ passesOf s) where
+  pub written-ill : not t ≡ true → (refused 14 0, out) ≡ writtenIf s bytes out
+  unfolding writtenIf
+  written-ill e = rw (← passes, e)
+
+  pub written-empty : not t ≡ false → s .links ≡ 0 → (refused 9 0, out) ≡ writtenIf s bytes out
+  unfolding writtenIf
+  written-empty e z = rw (← passes, e, z)
+
+  pub written-well : (a : Outcome × List ℕ) → not t ≡ false → (s .links ≡ 0 → ⊥) → a ≡ written bytes out → a ≡ writtenIf s bytes out
+  unfolding writtenIf
+  written-well a e z q = rw (← passes, e, ne-eqb _ _ z) q

@@ -1,0 +1,88 @@
+-- `decoded` reads one command in each turn: the reading from here on has the answer of the whole. A command that passes
+-- lies within the bytes, so that the next index is in range.
+use borrow.Author.Needs.{needs}
+use Prim.Native.Nat.{ℕ, _-_}
+use mathlib.Core.Path.{_≡_, sym, _∙_, ap}
+use lib.ListN.{length}
+use native.Mathlib.Omega.{arith}
+use Rattle.site.specs.Judge.{refusal}
+use Rattle.plan.specs.Read.{decode}
+use Rattle.plan.proofs.Laws.Decode.{decodeOn, decode-start, decode-out, decode-end, decode-stop, decode-go, fault-none}
+use Rattle.plan.proofs.read.decoded.Statement.{statement}
+use Rattle.plan.proofs.read.decoded.Tie as tie
+
+abbrev Inv-loop : tie.InvT-loop
+Inv-loop bytes draft₀ at₀ draft at = decodeOn bytes at draft ≡ decode bytes
+
+abbrev μ-loop : tie.MeasureT-loop
+μ-loop bytes draft₀ at₀ draft at = length bytes - at
+
+empty-requires : tie.Need-empty-requires Inv-loop μ-loop
+empty-requires c κs = search needs
+
+loop-holds : tie.Need-loop-holds Inv-loop μ-loop
+loop-holds c = rw (c .empty .ensures) (sym (decode-start _))
+
+shared-slice-read-if1 : tie.Need-shared-slice-read-if1 Inv-loop μ-loop
+shared-slice-read-if1 c = search needs
+
+end-requires : tie.Need-end-requires Inv-loop μ-loop
+end-requires c κs = search needs
+
+returns : tie.Need-returns Inv-loop μ-loop
+returns c =
+    c .end .ensures ∙ sym (decode-end _ _ _ (omega arith) (c .before .if1 .taken)) ∙ c .before .before .before .before .loop .inv
+
+command-requires : tie.Need-command-requires Inv-loop μ-loop
+command-requires c κs = search needs
+
+refusal-requires : tie.Need-refusal-requires Inv-loop μ-loop
+refusal-requires c κs = search needs
+
+returns-2 : tie.Need-returns-2 Inv-loop μ-loop
+returns-2 c =
+    let read = c .before .before .before in
+    let is = read .command .ensures .0 in
+    c .refusal .ensures ∙ ap (λ (r : ℕ). refusal r (read .before .before .before .before .loop .at)) is
+    ∙ sym (decode-stop _ _ _ (omega arith) (read .before .if1 .left) (λ z. c .before .if2 .taken (is ∙ z)))
+    ∙ read .before .before .before .before .loop .inv
+
+add-at : tie.Need-add-at Inv-loop μ-loop
+add-at c =
+    omega (arith, fault-none _ _ _ (sym (c .before .before .before .command .ensures .0) ∙ c .before .if2 .left) .0)
+
+loop-less : tie.Need-loop-less Inv-loop μ-loop
+loop-less c = search needs
+
+loop-again : tie.Need-loop-again Inv-loop μ-loop
+loop-again c =
+    let read = c .before .before .before in
+    let passed = c .before .if2 .left in
+    rw (read .command .ensures .1 passed)
+    (sym (decode-go _ _ _ (omega arith) (read .before .if1 .left) (sym (read .command .ensures .0) ∙ passed)) ∙ read .before .before .before .before .loop .inv)
+
+refusal-requires-2 : tie.Need-refusal-requires-2 Inv-loop μ-loop
+refusal-requires-2 c κs = search needs
+
+returns-3 : tie.Need-returns-3 Inv-loop μ-loop
+returns-3 c = c .refusal2 .ensures ∙ sym (decode-out _ _ _ (omega arith)) ∙ c .before .before .loop .inv
+
+pub decoded-spec : {M : Type 1} → statement M
+decoded-spec =
+    tie.close
+    (tie.spec
+    Inv-loop
+    μ-loop
+    empty-requires
+    loop-holds
+    shared-slice-read-if1
+    end-requires
+    returns
+    command-requires
+    refusal-requires
+    returns-2
+    add-at
+    loop-less
+    loop-again
+    refusal-requires-2
+    returns-3)

@@ -1,0 +1,65 @@
+-- 01, 14: "the site handed in is neither empty nor one that some plan bytes read to", as tests on its entries. That these tests say just
+-- this is the law `passes-when`.
+use Prim.Native.Nat.{ℕ}
+use mathlib.Core.Bool.{Bool, true, false, not, cond, _&&_}
+use mathlib.Core.List.{List, [], _∷_}
+use lib.Dec.{eqb, ltb, leb}
+use lib.ListN.{length, getD}
+use Rattle.pinwheel.specs.Search.{any}
+use Rattle.site.specs.declared.Site.{Site}
+use Rattle.site.specs.declared.Flow.{Flow}
+use Rattle.site.specs.Ruling.{Ruling, accepted, refused}
+use Rattle.site.specs.Schedule.{offsetsDealt, periodsDealt}
+use Rattle.site.specs.Judge.{judgeOf}
+use Rattle.plan.specs.declared.Node.{Node}
+use Rattle.plan.specs.Read.{nodeLimits, flowLimits}
+
+-- Every list has its length: 63 for links, 64 for flows.
+unfoldable pub shaped : Site → Bool
+shaped s =
+    eqb (length (s .parents)) 63 && (eqb (length (s .capacities)) 63 && (eqb (length (s .gaps)) 63 && (eqb (length (s .offsets)) 63
+    && (eqb (length (s .periods)) 63 && (eqb (length (s .states)) 64 && (eqb (length (s .entries)) 64 && (eqb (length (s .rates)) 64
+    && eqb (length (s .deadlines)) 64)))))))
+
+-- The node at index i, and the flow of number n.
+unfoldable pub nodeOf : Site → ℕ → Node
+nodeOf s i = record { parent = getD (s .parents) i 0; capacity = getD (s .capacities) i 0; gap = getD (s .gaps) i 0 }
+
+unfoldable pub flowOf : Site → ℕ → Flow
+flowOf s n = record { number = n; entry = getD (s .entries) n 0; rate = getD (s .rates) n 0; deadline = getD (s .deadlines) n 0 }
+
+-- The entries at index i are not those of a node within its limits or, past the last link, not all 0.
+unfoldable pub illNode : Site → ℕ → Bool
+illNode s i =
+    cond (ltb i (s .links)) (not (eqb (nodeLimits (s .parents) i (nodeOf s i)) 0))
+    (not (eqb (getD (s .parents) i 0) 0 && (eqb (getD (s .capacities) i 0) 0 && eqb (getD (s .gaps) i 0) 0)))
+
+-- The entries of number n are neither all 0 nor those of a live flow within its limits.
+unfoldable pub illFlow : Site → ℕ → Bool
+illFlow s n =
+    cond (eqb (getD (s .states) n 0) 0)
+    (not (eqb (getD (s .entries) n 0) 0 && (eqb (getD (s .rates) n 0) 0 && eqb (getD (s .deadlines) n 0) 0)))
+    (not (eqb (getD (s .states) n 0) 1 && eqb (flowLimits (s .links) 0 (flowOf s n)) 0))
+
+-- Nodes and flows are in form and limits, and what is not in use is 0.
+unfoldable pub formed : Site → Bool
+formed s = leb (s .links) 63 && (not (any (illNode s) 63 0) && not (any (illFlow s) 64 0))
+
+-- Two lists are equal.
+unfoldable pub same : List ℕ → List ℕ → Bool
+same [] [] = true
+same [] (y ∷ ys) = false
+same (x ∷ xs) [] = false
+same (x ∷ xs) (y ∷ ys) = eqb x y && same xs ys
+
+unfoldable pub accepts : Ruling → Bool
+accepts accepted = true
+accepts (refused number place) = false
+
+-- 11, 12 and 13 let the nodes and flows pass, and the schedule is theirs.
+unfoldable pub stands : Site → Bool
+stands s = accepts (judgeOf s .0) && (same (s .offsets) (offsetsDealt s) && same (s .periods) (periodsDealt s))
+
+-- 01, 14 lets the site pass.
+unfoldable pub passesOf : Site → Bool
+passesOf s = shaped s && (formed s && stands s)

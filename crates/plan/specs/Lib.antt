@@ -1,0 +1,4 @@
+pub mod Bytes
+pub mod Read
+pub mod Write
+pub mod Check

@@ -1,0 +1,54 @@
+-- What the writers put into a borrowed slice.
+use Prim.Native.Nat.{ℕ, zero, suc, _+_}
+use mathlib.Core.Bool.{not, cond}
+use mathlib.Core.List.{List, [], _∷_, _++_}
+use lib.Dec.{eqb, ltb}
+use lib.ListN.{length, getD, drop}
+use Rattle.pinwheel.specs.Deal.{Outcome, accepted, refused}
+use Rattle.site.specs.declared.Site.{Site}
+use Rattle.site.specs.Sites.{live}
+use Rattle.plan.specs.declared.Written.{Written}
+use Rattle.plan.specs.declared.Written.the-variants.{Length, Refused}
+use Rattle.plan.specs.Bytes.{bytesOf}
+use Rattle.plan.specs.Check.{passesOf}
+
+-- What each case of a writer's answer says in the terms of 01's tables: the number of bytes written, or the number and place of a refusal.
+abbrev pub writing : Written → Outcome
+writing (Length n) = accepted n
+writing (Refused number place) = refused number place
+
+-- 01, "01 NODE", of the node at index i.
+unfoldable pub nodeBytes : Site → ℕ → List ℕ
+nodeBytes s i = 1 ∷ getD (s .parents) i 0 ∷ bytesOf 2 (getD (s .capacities) i 0) ++ bytesOf 2 (getD (s .gaps) i 0)
+
+-- 01, "02 FLOW", of flow number n; nothing where it is not live.
+unfoldable pub flowBytes : Site → ℕ → List ℕ
+flowBytes s n = 2 ∷ n ∷ getD (s .entries) n 0 ∷ getD (s .rates) n 0 ∷ bytesOf 2 (getD (s .deadlines) n 0)
+
+-- 01, "11 LINK: node (8), offset (16), period (16)", of the link at index i.
+unfoldable pub linkBytes : List ℕ → List ℕ → ℕ → List ℕ
+linkBytes offsets periods i = 17 ∷ (i + 1) ∷ bytesOf 2 (getD offsets i 0) ++ bytesOf 2 (getD periods i 0)
+
+-- The bytes of r items from number i on, one after the other.
+unfoldable pub joined : (ℕ → List ℕ) → ℕ → ℕ → List ℕ
+joined bytes zero i = []
+joined bytes (suc r) i = bytes i ++ joined bytes r (i + 1)
+
+unfoldable pub flowIfLive : Site → ℕ → List ℕ
+flowIfLive s n = cond (live s n) (flowBytes s n) []
+
+-- 01, "All NODEs precede all FLOWs; flow numbers rise", then FF.
+unfoldable pub planBytes : Site → List ℕ
+planBytes s = joined (nodeBytes s) (s .links) 0 ++ (joined (flowIfLive s) 64 0 ++ (255 ∷ []))
+
+-- 01, "nodes rising, then FF".
+unfoldable pub scheduleBytes : ℕ → List ℕ → List ℕ → List ℕ
+scheduleBytes links offsets periods = joined (linkBytes offsets periods) links 0 ++ (255 ∷ [])
+
+-- 01, "A writer fills the first bytes of the lent slice and leaves the rest unchanged": 1 where it is too short, which is judged last.
+unfoldable pub written : List ℕ → List ℕ → Outcome × List ℕ
+written bytes out = cond (ltb (length out) (length bytes)) (refused 1 0, out) (accepted (length bytes), bytes ++ drop (length bytes) out)
+
+-- 14, then 9, then the writing itself.
+unfoldable pub writtenIf : Site → List ℕ → List ℕ → Outcome × List ℕ
+writtenIf s bytes out = cond (not (passesOf s)) (refused 14 0, out) (cond (eqb (s .links) 0) (refused 9 0, out) (written bytes out))

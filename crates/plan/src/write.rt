@@ -1,0 +1,188 @@
+// Writing plans and schedules into a borrowed slice.
+use crate::Written;
+use crate::check::passes;
+use site::Site;
+ghost use mathlib.Core.Path.{_≡_};
+ghost use Prim.Native.Nat.{_+_, _*_, _/_, _%_, _≤_, _<_};
+ghost use lib.ListN.{length};
+ghost use lib.Seq.{sets};
+ghost use Rattle.plan.specs.Write.{writing, nodeBytes, flowBytes, flowIfLive, linkBytes, joined, planBytes, scheduleBytes, written, writtenIf};
+
+fn low(v: u16) -> u8
+    ensures { λ r. ⌜ r ≡ v % 256 ⌝ }
+{
+    (v % 256) as u8
+}
+
+fn high(v: u16) -> u8
+    ensures { λ r. ⌜ r ≡ v / 256 % 256 ⌝ }
+{
+    (v / 256 % 256) as u8
+}
+
+fn node_command(site: Site, i: usize) -> [u8; 6]
+    requires { ⌜ i < 63 ⌝ }
+    ensures { λ r. ⌜ r ≡ nodeBytes site i ⌝ }
+{
+    let capacity = site.capacities[i];
+    let gap = site.gaps[i];
+    [
+        1,
+        site.parents[i],
+        low(capacity),
+        high(capacity),
+        low(gap),
+        high(gap),
+    ]
+}
+
+fn flow_command(site: Site, n: usize) -> [u8; 6]
+    requires { ⌜ n < 64 ⌝ }
+    ensures { λ r. ⌜ r ≡ flowBytes site n ⌝ }
+{
+    let deadline = site.deadlines[n];
+    [
+        2,
+        n as u8,
+        site.entries[n],
+        site.rates[n],
+        low(deadline),
+        high(deadline),
+    ]
+}
+
+fn link_command(offsets: [u16; 63], periods: [u16; 63], i: usize) -> [u8; 6]
+    requires { ⌜ i < 63 ⌝ }
+    ensures { λ r. ⌜ r ≡ linkBytes offsets periods i ⌝ }
+{
+    let offset = offsets[i];
+    let period = periods[i];
+    [
+        17,
+        (i + 1) as u8,
+        low(offset),
+        high(offset),
+        low(period),
+        high(period),
+    ]
+}
+
+// Six bytes from index `at` on.
+fn put(out: &mut [u8], at: usize, bytes: [u8; 6])
+    requires { ⌜ at + 6 ≤ length (now out) ⌝ }
+    ensures { λ _. ⌜ now (out .exit) ≡ sets (now (out .entry)) at bytes ⌝ }
+{
+    let mut i = 0;
+    while i < 6 {
+        out[at + i] = bytes[i];
+        i += 1;
+    }
+}
+
+// All nodes, from the start on.
+fn put_nodes(site: Site, out: &mut [u8])
+    requires { ⌜ (site .links ≤ 63) × (6 * site .links ≤ length (now out)) ⌝ }
+    ensures { λ _. ⌜ now (out .exit) ≡ sets (now (out .entry)) 0 (joined (nodeBytes site) (site .links) 0) ⌝ }
+{
+    let n = site.links as usize;
+    let mut i = 0;
+    while i < n {
+        put(out, 6 * i, node_command(site, i));
+        i += 1;
+    }
+}
+
+// All live flows, from index `start` on; answers the index after them.
+fn put_flows(site: Site, start: usize, out: &mut [u8]) -> usize
+    requires { ⌜ start + length (joined (flowIfLive site) 64 0) ≤ length (now out) ⌝ }
+    ensures { λ r. ⌜ (now (out .exit) ≡ sets (now (out .entry)) start (joined (flowIfLive site) 64 0))
+        × (r ≡ start + length (joined (flowIfLive site) 64 0)) ⌝ }
+{
+    let mut at = start;
+    let mut n = 0;
+    while n < 64 {
+        if site.states[n] == 1 {
+            put(out, at, flow_command(site, n));
+            at += 6;
+        }
+        n += 1;
+    }
+    at
+}
+
+// How many bytes the live flows take.
+fn flows_size(site: Site) -> usize
+    ensures { λ r. ⌜ r ≡ length (joined (flowIfLive site) 64 0) ⌝ }
+{
+    let mut size = 0;
+    let mut n = 0;
+    while n < 64 {
+        if site.states[n] == 1 {
+            size += 6;
+        }
+        n += 1;
+    }
+    size
+}
+
+// The plan of a site that passed the other checks.
+fn put_plan(site: Site, out: &mut [u8]) -> Written
+    requires { ⌜ site .links ≤ 63 ⌝ }
+    ensures { λ r. ⌜ (writing r, now (out .exit)) ≡ written (planBytes site) (now (out .entry)) ⌝ }
+{
+    let nodes = 6 * site.links as usize;
+    let size = nodes + flows_size(site) + 1;
+    if out.len() < size {
+        return Written::Refused(1, 0);
+    }
+    put_nodes(site, out);
+    let end = put_flows(site, nodes, out);
+    out[end] = 255;
+    Written::Length(size)
+}
+
+// A schedule: so many links, with these offsets and periods.
+fn put_schedule(links: u8, offsets: [u16; 63], periods: [u16; 63], out: &mut [u8]) -> Written
+    requires { ⌜ links ≤ 63 ⌝ }
+    ensures { λ r. ⌜ (writing r, now (out .exit)) ≡ written (scheduleBytes links offsets periods) (now (out .entry)) ⌝ }
+{
+    let n = links as usize;
+    if out.len() < 6 * n + 1 {
+        return Written::Refused(1, 0);
+    }
+    let mut i = 0;
+    while i < n {
+        put(out, 6 * i, link_command(offsets, periods, i));
+        i += 1;
+    }
+    out[6 * n] = 255;
+    Written::Length(6 * n + 1)
+}
+
+// The plan bytes of a site.
+pub fn write_plan(site: Site, out: &mut [u8]) -> Written
+    ensures { λ r. ⌜ (writing r, now (out .exit)) ≡ writtenIf site (planBytes site) (now (out .entry)) ⌝ }
+{
+    if !passes(site) {
+        return Written::Refused(14, 0);
+    }
+    if site.links == 0 {
+        return Written::Refused(9, 0);
+    }
+    put_plan(site, out)
+}
+
+// The schedule bytes of a site.
+pub fn write_schedule(site: Site, out: &mut [u8]) -> Written
+    ensures { λ r. ⌜ (writing r, now (out .exit)) ≡ writtenIf site (scheduleBytes (site .links) (site .offsets) (site .periods)) (now (out .entry)) ⌝ }
+{
+    if !passes(site) {
+        return Written::Refused(14, 0);
+    }
+    if site.links == 0 {
+        return Written::Refused(9, 0);
+    }
+    let offsets = site.offsets;
+    let periods = site.periods;
+    put_schedule(site.links, offsets, periods, out)
+}
