@@ -6,17 +6,11 @@ use site::Judged;
 use site::Site;
 use site::Verdict;
 ghost use mathlib.Core.Path.{_≡_};
-ghost use Prim.Native.Nat.{_+_, _*_, _<_};
+ghost use Prim.Native.Nat.{_+_, _*_, _<_, _≤_};
 ghost use lib.ListN.{length};
 ghost use Rattle.site.specs.Ruling.{ruling};
-ghost use Rattle.plan.specs.Read.{nodeAt, flowAt, nodeLimits, flowLimits, nodeAdded, flowAdded, fault, after, nodeFault, flowFault};
-ghost use Rattle.plan.specs.Read.{nodeCommand, flowCommand, endOf, decode, readOf};
-
-// A command's first failing check, 0 where none fails, and what has been read then.
-struct Step {
-    fault: u8,
-    draft: Draft,
-}
+ghost use Rattle.plan.specs.Read.{nodeAt, flowAt, nodeLimits, flowLimits, nodeFault, nodeAdded, flowAdded};
+ghost use Rattle.plan.specs.Read.{fault, after, endOf, decode, readOf};
 
 fn word(low: u8, high: u8) -> u16
     ensures { λ r. ⌜ r ≡ low + 256 * high ⌝ }
@@ -111,81 +105,63 @@ fn with_flow(draft: Draft, flow: Flow) -> Draft
     }
 }
 
-fn node_step(draft: Draft, node: Node) -> Step
-    ensures { λ r. ⌜ (r .fault ≡ nodeFault draft node) × (r .fault ≡ 0 → r .draft ≡ nodeAdded draft node) ⌝ }
+// The operands of the NODE at index `at`.
+fn node_at(bytes: &[u8], at: usize) -> Node
+    requires { ⌜ at + 6 ≤ length (now bytes) ⌝ }
+    ensures { λ r. ⌜ r ≡ nodeAt (now (bytes .entry)) at ⌝ }
 {
-    let fault = node_fault(draft, node);
-    if fault != 0 {
-        return Step { fault, draft };
-    }
-    Step {
-        fault: 0,
-        draft: with_node(draft, node),
-    }
-}
-
-fn flow_step(draft: Draft, flow: Flow) -> Step
-    ensures { λ r. ⌜ (r .fault ≡ flowFault draft flow) × (r .fault ≡ 0 → r .draft ≡ flowAdded draft flow) ⌝ }
-{
-    let site = draft.site;
-    let fault = flow_limits(site.links, draft.next, flow);
-    if fault != 0 {
-        return Step { fault, draft };
-    }
-    Step {
-        fault: 0,
-        draft: with_flow(draft, flow),
-    }
-}
-
-// The NODE at index `at`.
-fn read_node(bytes: &[u8], at: usize, draft: Draft) -> Step
-    requires { ⌜ at < length (now bytes) ⌝ }
-    ensures { λ r. ⌜ (r .fault ≡ nodeCommand (now (bytes .entry)) at draft)
-        × (r .fault ≡ 0 → r .draft ≡ nodeAdded draft (nodeAt (now (bytes .entry)) at)) ⌝ }
-{
-    if bytes.len() - at < 6 {
-        return Step { fault: 2, draft };
-    }
-    let node = Node {
+    Node {
         parent: bytes[at + 1],
         capacity: word(bytes[at + 2], bytes[at + 3]),
         gap: word(bytes[at + 4], bytes[at + 5]),
-    };
-    node_step(draft, node)
+    }
 }
 
-// The FLOW at index `at`.
-fn read_flow(bytes: &[u8], at: usize, draft: Draft) -> Step
-    requires { ⌜ at < length (now bytes) ⌝ }
-    ensures { λ r. ⌜ (r .fault ≡ flowCommand (now (bytes .entry)) at draft)
-        × (r .fault ≡ 0 → r .draft ≡ flowAdded draft (flowAt (now (bytes .entry)) at)) ⌝ }
+// The operands of the FLOW at index `at`.
+fn flow_at(bytes: &[u8], at: usize) -> Flow
+    requires { ⌜ at + 6 ≤ length (now bytes) ⌝ }
+    ensures { λ r. ⌜ r ≡ flowAt (now (bytes .entry)) at ⌝ }
 {
-    if bytes.len() - at < 6 {
-        return Step { fault: 2, draft };
-    }
-    let flow = Flow {
+    Flow {
         number: bytes[at + 1],
         entry: bytes[at + 2],
         rate: bytes[at + 3],
         deadline: word(bytes[at + 4], bytes[at + 5]),
-    };
-    flow_step(draft, flow)
+    }
 }
 
-// The command at index `at`, which is not END.
-fn command(bytes: &[u8], at: usize, draft: Draft) -> Step
+// The first check that the command at index `at` fails, 0 where it fails none. It is not END.
+fn fault_at(bytes: &[u8], at: usize, draft: Draft) -> u8
     requires { ⌜ at < length (now bytes) ⌝ }
-    ensures { λ r. ⌜ (r .fault ≡ fault (now (bytes .entry)) at draft) × (r .fault ≡ 0 → r .draft ≡ after (now (bytes .entry)) at draft) ⌝ }
+    ensures { λ r. ⌜ r ≡ fault (now (bytes .entry)) at draft ⌝ }
 {
     let tag = bytes[at];
+    let left = bytes.len() - at;
     if tag == 1 {
-        return read_node(bytes, at, draft);
+        if left < 6 {
+            return 2;
+        }
+        return node_fault(draft, node_at(bytes, at));
     }
     if tag == 2 {
-        return read_flow(bytes, at, draft);
+        if left < 6 {
+            return 2;
+        }
+        let site = draft.site;
+        return flow_limits(site.links, draft.next, flow_at(bytes, at));
     }
-    Step { fault: 3, draft }
+    3
+}
+
+// What has been read with the command at index `at`, which fails no check.
+fn after_command(bytes: &[u8], at: usize, draft: Draft) -> Draft
+    requires { ⌜ fault (now bytes) at draft ≡ 0 ⌝ }
+    ensures { λ r. ⌜ r ≡ after (now (bytes .entry)) at draft ⌝ }
+{
+    if bytes[at] == 1 {
+        return with_node(draft, node_at(bytes, at));
+    }
+    with_flow(draft, flow_at(bytes, at))
 }
 
 // END at index `at`.
@@ -217,11 +193,11 @@ fn decoded(bytes: &[u8]) -> Judged
         if bytes[at] == 255 {
             return end(bytes.len(), at, draft.site);
         }
-        let step = command(bytes, at, draft);
-        if step.fault != 0 {
-            return site::refusal(step.fault, at);
+        let fault = fault_at(bytes, at, draft);
+        if fault != 0 {
+            return site::refusal(fault, at);
         }
-        draft = step.draft;
+        draft = after_command(bytes, at, draft);
         at += 6;
     }
     site::refusal(2, bytes.len())

@@ -91,11 +91,12 @@ pub fn refusal(number: u8, place: usize) -> Judged
 fn judge_reservations(site: Site) -> Judged
     ensures { λ r. ⌜ (ruling (r .verdict), r .site) ≡ reserved site ⌝ }
 {
+    let links = schedule::used(site.links);
     let over = reservations::first_over(site);
-    if over < schedule::used(site.links) {
+    let late = reservations::first_late(site);
+    if over < links {
         return refusal(12, over + 1);
     }
-    let late = reservations::first_late(site);
     if late < 64 {
         return refusal(13, late);
     }

@@ -85,6 +85,14 @@ module _ (bytes : List ℕ) where
               ]
         ]
 
+    pub node-none : fault bytes at d ≡ 0 → getD bytes at 0 ≡ 1
+        → (nodeFault d (nodeAt bytes at) ≡ 0) × (after bytes at d ≡ nodeAdded d (nodeAt bytes at))
+    node-none e t = elim (fault-none e .1) [ inl f ↦ (f .1, f .2) | inr f ↦ absurd (omega (arith, f .0)) ]
+
+    pub flow-none : fault bytes at d ≡ 0 → (getD bytes at 0 ≡ 1 → ⊥)
+        → (flowFault d (flowAt bytes at) ≡ 0) × (after bytes at d ≡ flowAdded d (flowAt bytes at))
+    flow-none e n = elim (fault-none e .1) [ inl f ↦ absurd (n (f .0)) | inr f ↦ (f .1, f .2) ]
+
     pub node-passes : at + 6 ≤ length bytes → getD bytes at 0 ≡ 1 → nodeFault d (nodeAt bytes at) ≡ 0
         → decodeOn bytes at d ≡ decodeOn bytes (at + 6) (nodeAdded d (nodeAt bytes at))
     unfolding fault nodeCommand after

@@ -1,15 +1,18 @@
--- `judge_reservations` asks for the first link that is over, then for the first flow that is late, and passes on the site itself where there is none.
+-- `judge_reservations` refuses the first link that is over, then the first flow that is late, and passes on the site itself where there is neither.
 use borrow.Author.Needs.{needs}
 use mathlib.Core.Path.{_∙_}
 use Rattle.site.proofs.Laws.Rulings.{refuse-over, refuse-late, accept-reserved}
 use Rattle.site.proofs.judge_reservations.Statement.{statement}
 use Rattle.site.proofs.judge_reservations.Tie as tie
 
+used-requires : tie.Need-used-requires
+used-requires c κs = search needs
+
 first-over-requires : tie.Need-first-over-requires
 first-over-requires c κs = search needs
 
-used-requires : tie.Need-used-requires
-used-requires c κs = search needs
+first-late-requires : tie.Need-first-late-requires
+first-late-requires c κs = search needs
 
 add-refusal : tie.Need-add-refusal
 add-refusal c = search needs
@@ -19,37 +22,34 @@ refusal-requires c κs = search needs
 
 returns : tie.Need-returns
 returns c =
-    let judged = c .before in
-    c .refusal .ensures ∙ refuse-over _ _ _ (judged .before .used .ensures) (judged .before .before .first-over .ensures) (judged .if1 .taken)
-
-first-late-requires : tie.Need-first-late-requires
-first-late-requires c κs = search needs
+    let found = c .before .before in
+    c .refusal .ensures ∙ refuse-over _ _ _ (found .before .before .used .ensures) (found .before .first-over .ensures) (c .before .if1 .taken)
 
 refusal-requires-2 : tie.Need-refusal-requires-2
 refusal-requires-2 c κs = search needs
 
 returns-2 : tie.Need-returns-2
 returns-2 c =
-    let judged = c .before .before .before in
-    c .refusal2 .ensures ∙ refuse-late _ _ _ (judged .before .used .ensures) (judged .before .before .first-over .ensures) (judged .if1 .left) _
-    (c .before .before .first-late .ensures) (c .before .if2 .taken)
+    let found = c .before .before .before in
+    c .refusal2 .ensures ∙ refuse-late _ _ _ (found .before .before .used .ensures) (found .before .first-over .ensures)
+    (c .before .before .if1 .left) _ (found .first-late .ensures) (c .before .if2 .taken)
 
 returns-3 : tie.Need-returns-3
 returns-3 c =
-    let judged = c .before .before in
-    accept-reserved _ _ _ (judged .before .used .ensures) (judged .before .before .first-over .ensures) (judged .if1 .left) _
-    (c .before .first-late .ensures) (c .if2 .left)
+    let found = c .before .before in
+    accept-reserved _ _ _ (found .before .before .used .ensures) (found .before .first-over .ensures) (c .before .if1 .left) _
+    (found .first-late .ensures) (c .if2 .left)
 
 pub judge-reservations-spec : {M : Type 1} → statement M
 judge-reservations-spec =
     tie.close
     (tie.spec
-    first-over-requires
     used-requires
+    first-over-requires
+    first-late-requires
     add-refusal
     refusal-requires
     returns
-    first-late-requires
     refusal-requires-2
     returns-2
     returns-3)

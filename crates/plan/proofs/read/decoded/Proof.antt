@@ -30,36 +30,37 @@ end-requires : tie.Need-end-requires Inv-loop μ-loop
 end-requires c κs = search needs
 
 returns : tie.Need-returns Inv-loop μ-loop
-returns c =
-    c .end .ensures ∙ sym (decode-end _ _ _ (omega arith) (c .before .if1 .taken)) ∙ c .before .before .before .before .loop .inv
+returns c = c .end .ensures ∙ sym (decode-end _ _ _ (omega arith) (c .before .if1 .taken)) ∙ c .before .before .before .before .loop .inv
 
-command-requires : tie.Need-command-requires Inv-loop μ-loop
-command-requires c κs = search needs
+fault-at-requires : tie.Need-fault-at-requires Inv-loop μ-loop
+fault-at-requires c κs = search needs
 
 refusal-requires : tie.Need-refusal-requires Inv-loop μ-loop
 refusal-requires c κs = search needs
 
 returns-2 : tie.Need-returns-2 Inv-loop μ-loop
 returns-2 c =
-    let read = c .before .before .before in
-    let is = read .command .ensures .0 in
-    c .refusal .ensures ∙ ap (λ (r : ℕ). refusal r (read .before .before .before .before .loop .at)) is
-    ∙ sym (decode-stop _ _ _ (omega arith) (read .before .if1 .left) (λ z. c .before .if2 .taken (is ∙ z)))
-    ∙ read .before .before .before .before .loop .inv
+    let judged = c .before .before in
+    let is = judged .fault-at .ensures in
+    let turn = judged .before .before .before .before in
+    c .refusal .ensures ∙ ap (λ (r : ℕ). refusal r (turn .loop .at)) is
+    ∙ sym (decode-stop _ _ _ (omega arith) (judged .before .if1 .left) (λ z. c .before .if2 .taken (is ∙ z))) ∙ turn .loop .inv
+
+after-command-requires : tie.Need-after-command-requires Inv-loop μ-loop
+after-command-requires c κs = sym (c .before .fault-at .ensures) ∙ c .if2 .left
 
 add-at : tie.Need-add-at Inv-loop μ-loop
-add-at c =
-    omega (arith, fault-none _ _ _ (sym (c .before .before .before .command .ensures .0) ∙ c .before .if2 .left) .0)
+add-at c = omega (arith, fault-none _ _ _ (sym (c .before .before .fault-at .ensures) ∙ c .before .if2 .left) .0)
 
 loop-less : tie.Need-loop-less Inv-loop μ-loop
 loop-less c = search needs
 
 loop-again : tie.Need-loop-again Inv-loop μ-loop
 loop-again c =
-    let read = c .before .before .before in
-    let passed = c .before .if2 .left in
-    rw (read .command .ensures .1 passed)
-    (sym (decode-go _ _ _ (omega arith) (read .before .if1 .left) (sym (read .command .ensures .0) ∙ passed)) ∙ read .before .before .before .before .loop .inv)
+    let judged = c .before .before in
+    let passed = sym (judged .fault-at .ensures) ∙ c .before .if2 .left in
+    rw (c .after-command .ensures)
+    (sym (decode-go _ _ _ (omega arith) (judged .before .if1 .left) passed) ∙ judged .before .before .before .before .loop .inv)
 
 refusal-requires-2 : tie.Need-refusal-requires-2 Inv-loop μ-loop
 refusal-requires-2 c κs = search needs
@@ -78,9 +79,10 @@ decoded-spec =
     shared-slice-read-if1
     end-requires
     returns
-    command-requires
+    fault-at-requires
     refusal-requires
     returns-2
+    after-command-requires
     add-at
     loop-less
     loop-again
