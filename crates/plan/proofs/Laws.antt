@@ -13,19 +13,20 @@ pub mod FromSites
 pub mod Check
 pub mod Write
 pub mod Small
-pub mod Reading
+pub mod Acceptance
 pub mod Passing
 pub mod Empty
 pub mod Flows
 use Prim.Native.Nat.{ℕ, _+_, _≤_, _<_}
 use mathlib.Core.Path.{_≡_, refl, sym, _∙_, ap}
 use mathlib.Core.Bool.{true, false}
-use mathlib.Core.List.{List}
+use mathlib.Core.List.{List, _++_}
 use mathlib.Core.Logic.{_⊎_, inl, inr, ⊎-elim, _↔_}
-use lib.ListN.{length, getD, take}
+use lib.ListN.{length, getD, take, drop}
+use borrow.Author.Tests.{le-ltb, ne-eqb}
 use native.Mathlib.Omega.{arith}
-use Rattle.pinwheel.proofs.Laws.Words.{Once}
 use Rattle.pinwheel.proofs.Laws.Search.{lt-or-le}
+use Rattle.pinwheel.specs.Deal.{accepted as wrote}
 use Rattle.site.specs.declared.Site.{Site}
 use Rattle.site.specs.declared.Flow.{Flow}
 use Rattle.site.specs.Ruling.{Ruling, accepted, refused}
@@ -37,13 +38,13 @@ use Rattle.site.proofs.Laws.Tree.{Leads, route-leads, route-falls}
 use Rattle.site.proofs.Laws.Judge as judge
 use Rattle.site.proofs.Laws.Judge.{Served, Carried, Punctual}
 use Rattle.plan.specs.Read.{decode, judgeForm, readOf}
-use Rattle.plan.specs.Write.{planBytes}
-use Rattle.plan.specs.Check.{passesOf}
-use Rattle.plan.proofs.Laws.Words.{Bytes, Sound}
-use Rattle.plan.proofs.Laws.Forms.{FlowGood}
+use Rattle.plan.specs.Write.{planBytes, written, writtenIf}
+use Rattle.plan.specs.Check.{flowOf, passesOf}
+use Rattle.plan.proofs.Laws.Words.{Bytes, FlowGood, Sound}
 use Rattle.plan.proofs.Laws.Readings.{decode-refused, decode-first}
+use Rattle.plan.proofs.Laws.Write.{plan-size, flows-few}
 use Rattle.plan.proofs.Laws.Small.{plan-small}
-use Rattle.plan.proofs.Laws.Reading.{InForm, judged-when, read-form, read-plan, plan-scheduled, judge-emptied}
+use Rattle.plan.proofs.Laws.Acceptance.{InForm, judged-when, read-form, read-plan, plan-scheduled, judge-emptied}
 use Rattle.plan.proofs.Laws.Passing.{passes-parts, judged-passes}
 use Rattle.plan.proofs.Laws.Empty.{empty-passes, linkless-empty}
 use Rattle.plan.proofs.Laws.Flows.{live-few, live-fits, parent-below, route-short, without-none, without-with}
@@ -76,6 +77,15 @@ read-written bytes s small e =
 -- Site to bytes to site.
 pub written-read : (s : Site) → passesOf s ≡ true → 1 ≤ s .links → Bytes (planBytes s) × (readOf (planBytes s) ≡ (accepted, s))
 written-read s e some = let w = passes-parts s .0 e in (plan-small s (w .0), read-plan s (w .0) some ∙ rw (← w .2) at (w .1))
+
+-- The operation writes these bytes, at most 763, and leaves the rest of the slice.
+pub plan-written : (s : Site) (out : List ℕ) → passesOf s ≡ true → 1 ≤ s .links → length (planBytes s) ≤ length out
+    → writtenIf s (planBytes s) out ≡ (wrote (length (planBytes s)), planBytes s ++ drop (length (planBytes s)) out)
+unfolding writtenIf written
+plan-written s out e some room = simp (e, ne-eqb (s .links) 0 (omega arith), le-ltb _ _ room)
+
+pub plan-short : (s : Site) → passesOf s ≡ true → length (planBytes s) ≤ 763
+plan-short s e = omega (arith, plan-size s _ refl, flows-few s, passes-parts s .0 e .0 .few)
 
 -- No two byte strings read to one site.
 pub read-once : (bytes others : List ℕ) (s : Site) → Bytes bytes → Bytes others → readOf bytes ≡ (accepted, s)
@@ -110,22 +120,24 @@ module _ (s : Site) (e : passesOf s ≡ true) where
   sound : Sound s
   sound = passes-sound s .0 e
 
-  -- 01, "Children of one parent never send in the same slot".
-  pub siblings-apart : (i k t : ℕ) → i < s .links → k < s .links → (i ≡ k → ⊥) → getD (s .parents) i 0 ≡ getD (s .parents) k 0
-      → linkSends s (i + 1) t ≡ true → linkSends s (k + 1) t ≡ true → ⊥
+  -- 01, The site: two links of one parent share no slot.
+  pub siblings-apart : (n m t : ℕ) → (n ≡ m → ⊥) → ofLink (s .parents) n ≡ ofLink (s .parents) m
+      → linkSends s n t ≡ true → linkSends s m t ≡ true → ⊥
   siblings-apart = judge.siblings-apart s (sound-timed s sound)
 
   -- Each link sends exactly once in every run of `period` slots.
-  pub link-once : (i start : ℕ) → i < s .links → Once (getD (s .periods) i 0) (getD (s .offsets) i 0) start
+  pub link-once : (n start : ℕ) → 1 ≤ n → n ≤ s .links
+      → (t : ℕ) × (start ≤ t) × (t < start + ofLink (s .periods) n) × (linkSends s n t ≡ true)
+      × ((u : ℕ) → start ≤ u → u < start + ofLink (s .periods) n → linkSends s n u ≡ true → u ≡ t)
   link-once = judge.link-once s (sound-timed s sound)
 
   -- Its period is at least 1 and at most its wanted gap.
-  pub period-within : (i : ℕ) → i < s .links → (1 ≤ getD (s .periods) i 0) × (getD (s .periods) i 0 ≤ getD (s .gaps) i 0)
+  pub period-within : (n : ℕ) → 1 ≤ n → n ≤ s .links → (1 ≤ ofLink (s .periods) n) × (ofLink (s .periods) n ≤ ofLink (s .gaps) n)
   period-within = judge.period-within s (sound-timed s sound)
 
   -- G is at most the deadline of every live flow.
   pub bound-within : (n : ℕ) → live s n ≡ true → delayBound s n ≤ getD (s .deadlines) n 0
-  unfolding gapsJudged
+  unfolding gapsJudged flowOf
   bound-within n l = omega (
     arith,
     judge.bound-within s (sound-timed s sound) n (live-fits s (sound .formed) n l .entry-most),
@@ -136,7 +148,7 @@ module _ (s : Site) (e : passesOf s ≡ true) where
   pub route-whole : (n : ℕ) → live s n ≡ true
       → Leads (s .parents) (getD (s .entries) n 0) (routeOf s n) × (length (routeOf s n) ≤ 8)
       × ((j : ℕ) → j + 1 < length (routeOf s n) → getD (routeOf s n) (j + 1) 0 < getD (routeOf s n) j 0)
-  unfolding routeOf
+  unfolding routeOf flowOf
   route-whole n l =
       let f = live-fits s (sound .formed) n l in (
         route-leads (s .parents) _ (λ m a b. parent-below s (sound .formed) m a (omega (arith, f .entry-most))),

@@ -1,4 +1,4 @@
--- 01, "operands of fixed width, low byte first", for a number of any width.
+-- 01, Plan bytes: how an operand of any width stands in the bytes. The low byte comes first.
 use Prim.Native.Nat.{ℕ, zero, suc, _+_, _*_, _/_, _%_}
 use mathlib.Core.List.{List, [], _∷_}
 use lib.ListN.{getD}

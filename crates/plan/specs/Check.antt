@@ -1,4 +1,4 @@
--- 01, 14: "the site handed in is neither empty nor one that some plan bytes read to", as tests on its entries. That these tests say just
+-- 01, check 14, as tests on the entries of a site: whether it is empty or what some plan reads to. That these tests say just
 -- this is the law `passes-when`.
 use Prim.Native.Nat.{ℕ}
 use mathlib.Core.Bool.{Bool, true, false, not, cond, _&&_}

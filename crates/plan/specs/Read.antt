@@ -1,4 +1,4 @@
--- 01, "Plan bytes" and the checks of a reading: what any bytes read to.
+-- 01, Plan bytes, and the checks of a reading in their order: what any bytes read to.
 use Prim.Native.Nat.{ℕ, zero, suc, _+_}
 use mathlib.Core.Bool.{Bool, cond, _||_}
 use mathlib.Core.List.{List}
@@ -14,11 +14,11 @@ use Rattle.plan.specs.declared.Node.{Node}
 use Rattle.plan.specs.declared.Draft.{Draft}
 use Rattle.plan.specs.Bytes.{numberAt}
 
--- 01, "01 NODE: parent (8 bits), capacity (16), wanted gap (16)", the command at index `at`.
+-- 01, command 01, NODE, at index `at`: a byte for the parent, two for the capacity, two for the wanted gap.
 unfoldable pub nodeAt : List ℕ → ℕ → Node
 nodeAt bytes at = record { parent = numberAt 1 bytes (at + 1); capacity = numberAt 2 bytes (at + 2); gap = numberAt 2 bytes (at + 4) }
 
--- 01, "02 FLOW: flow number (8), entry node (8), rate (8), deadline (16)".
+-- 01, command 02, FLOW: a byte each for number, entry node and rate, two for the deadline.
 unfoldable pub flowAt : List ℕ → ℕ → Flow
 flowAt bytes at = record {
   number = numberAt 1 bytes (at + 1);
@@ -43,7 +43,7 @@ nodeLimits parents k n = cond (badNode n) 5 (cond (ltb k (n .parent)) 6 (cond (l
 unfoldable pub flowLimits : ℕ → ℕ → Flow → ℕ
 flowLimits links next f = cond (badFlow f) 5 (cond (eqb (f .entry) 0 || (ltb links (f .entry) || ltb (f .number) next)) 6 0)
 
--- 01, "For a command: 3, 2, 4, 7, 5, 6, 8": from 4 on for a NODE. A FLOW has been read just when `next` is above 0.
+-- 01, the order of a command's checks, from 4 on for a NODE. A FLOW has been read just when `next` is above 0.
 unfoldable pub nodeFault : Draft → Node → ℕ
 nodeFault d n = cond (ltb 0 (d .next)) 4 (cond (leb 63 (d .site .links)) 7 (nodeLimits (d .site .parents) (d .site .links) n))
 
@@ -62,7 +62,7 @@ unfoldable pub fault : List ℕ → ℕ → Draft → ℕ
 fault bytes at d =
     cond (eqb (getD bytes at 0) 1) (nodeCommand bytes at d) (cond (eqb (getD bytes at 0) 2) (flowCommand bytes at d) 3)
 
--- 01, "Nodes number themselves 1, 2, 3 in order of appearance": what is read so far, with one node more.
+-- 01: nodes are numbered as they come. What is read so far, with one node more.
 unfoldable pub withNode : Site → Node → Site
 withNode s n = record {
   links = s .links + 1;
@@ -80,7 +80,7 @@ withNode s n = record {
 unfoldable pub nodeAdded : Draft → Node → Draft
 nodeAdded d n = record { site = withNode (d .site) n; next = d .next }
 
--- 01, "flow numbers rise": the next one is above this one.
+-- 01: flow numbers rise, so the next one is above this one.
 unfoldable pub flowAdded : Draft → Flow → Draft
 flowAdded d f = record { site = withFlow (d .site) f; next = f .number + 1 }
 
@@ -88,7 +88,7 @@ flowAdded d f = record { site = withFlow (d .site) f; next = f .number + 1 }
 unfoldable pub after : List ℕ → ℕ → Draft → Draft
 after bytes at d = cond (eqb (getD bytes at 0) 1) (nodeAdded d (nodeAt bytes at)) (flowAdded d (flowAt bytes at))
 
--- 01, "for END: 9, 10": END at index `at` of so many bytes.
+-- 01, the checks of END, 9 and 10: END at index `at` of so many bytes.
 unfoldable pub endOf : ℕ → ℕ → Site → Ruling × Site
 endOf size at s = cond (eqb (s .links) 0) (refusal 9 at) (cond (ltb (at + 1) size) (refusal 10 (at + 1)) (accepted, s))
 

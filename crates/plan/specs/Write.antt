@@ -17,15 +17,15 @@ abbrev pub writing : Written → Outcome
 writing (Length n) = accepted n
 writing (Refused number place) = refused number place
 
--- 01, "01 NODE", of the node at index i.
+-- 01, command 01, NODE, of the node at index i.
 unfoldable pub nodeBytes : Site → ℕ → List ℕ
 nodeBytes s i = 1 ∷ getD (s .parents) i 0 ∷ bytesOf 2 (getD (s .capacities) i 0) ++ bytesOf 2 (getD (s .gaps) i 0)
 
--- 01, "02 FLOW", of flow number n; nothing where it is not live.
+-- 01, command 02, FLOW, of flow number n.
 unfoldable pub flowBytes : Site → ℕ → List ℕ
 flowBytes s n = 2 ∷ n ∷ getD (s .entries) n 0 ∷ getD (s .rates) n 0 ∷ bytesOf 2 (getD (s .deadlines) n 0)
 
--- 01, "11 LINK: node (8), offset (16), period (16)", of the link at index i.
+-- 01, command 11, LINK, of the link at index i: its node, offset and period.
 unfoldable pub linkBytes : List ℕ → List ℕ → ℕ → List ℕ
 linkBytes offsets periods i = 17 ∷ (i + 1) ∷ bytesOf 2 (getD offsets i 0) ++ bytesOf 2 (getD periods i 0)
 
@@ -37,15 +37,15 @@ joined bytes (suc r) i = bytes i ++ joined bytes r (i + 1)
 unfoldable pub flowIfLive : Site → ℕ → List ℕ
 flowIfLive s n = cond (live s n) (flowBytes s n) []
 
--- 01, "All NODEs precede all FLOWs; flow numbers rise", then FF.
+-- 01: the NODEs, the FLOWs of all live flows by rising number, END.
 unfoldable pub planBytes : Site → List ℕ
 planBytes s = joined (nodeBytes s) (s .links) 0 ++ (joined (flowIfLive s) 64 0 ++ (255 ∷ []))
 
--- 01, "nodes rising, then FF".
+-- 01: the LINKs by rising node, END.
 unfoldable pub scheduleBytes : ℕ → List ℕ → List ℕ → List ℕ
 scheduleBytes links offsets periods = joined (linkBytes offsets periods) links 0 ++ (255 ∷ [])
 
--- 01, "A writer fills the first bytes of the lent slice and leaves the rest unchanged": 1 where it is too short, which is judged last.
+-- 01: a writer fills the front of the borrowed slice and keeps the rest. Too short a slice is 1, judged after all else.
 unfoldable pub written : List ℕ → List ℕ → Outcome × List ℕ
 written bytes out = cond (ltb (length out) (length bytes)) (refused 1 0, out) (accepted (length bytes), bytes ++ drop (length bytes) out)
 

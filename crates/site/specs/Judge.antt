@@ -1,4 +1,4 @@
--- 01, "After END: 11 over all parents rising, then 12, then 13."
+-- 01, the checks after END: 11 for every parent, then 12, then 13.
 use Prim.Native.Nat.{ℕ, _+_}
 use mathlib.Core.Bool.{cond}
 use lib.Dec.{ltb, leb}
@@ -8,7 +8,7 @@ use Rattle.site.specs.Sites.{emptySite}
 use Rattle.site.specs.Schedule.{used, firstCrowded, scheduled}
 use Rattle.site.specs.Reservations.{firstOver, firstLate}
 
--- 01, "a refused reading gives the empty site".
+-- 01: a refused reading comes with the empty site.
 abbrev pub refusal : ℕ → ℕ → Ruling × Site
 refusal number place = (refused number place, emptySite)
 

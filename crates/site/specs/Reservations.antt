@@ -1,4 +1,4 @@
--- 01, "Reservations": what live flows keep on the links of their routes.
+-- 01, Reservations: what live flows keep on the links of their routes.
 use Prim.Native.Nat.{ℕ, zero, suc, _+_, _*_}
 use mathlib.Core.Bool.{Bool, cond, _&&_}
 use mathlib.Core.List.{List, [], _∷_}
@@ -18,7 +18,7 @@ gapsJudged s = s .gaps
 unfoldable pub routeOf : Site → ℕ → List ℕ
 routeOf s n = route (s .parents) (getD (s .entries) n 0)
 
--- 01, "On each link of its route a flow reserves a width of rate × wanted gap": on the link of node m, at this rate.
+-- 01, Reservations: the width on the link of node m, rate × judged gap, of a flow with this rate.
 unfoldable pub widthAt : List ℕ → ℕ → ℕ → ℕ
 widthAt gaps rate m = rate * ofLink gaps m
 
@@ -54,6 +54,6 @@ late s n = live s n && ltb (getD (s .deadlines) n 0) (along (gapsJudged s) (rout
 unfoldable pub firstLate : Site → ℕ
 firstLate s = first (late s) 64 0
 
--- 01, "G is the sum of their periods".
+-- 01, the list of demand 3: G, the sum of the periods on the route (the bound that is printed).
 unfoldable pub delayBound : Site → ℕ → ℕ
 delayBound s n = along (s .periods) (routeOf s n)

@@ -48,7 +48,7 @@ baseUnder s p = baseOf (dealtUnder s p .0)
 unfoldable pub crowded : Site → ℕ → Bool
 crowded s p = not (eqb (length (gapsUnder s p)) 0) && eqb (baseUnder s p) 0
 
--- 01, "11 over all parents rising": the first crowded parent, and one above the last link where there is none.
+-- 01, 11 by rising parent: the first crowded one, and one above the last link where there is none.
 unfoldable pub firstCrowded : Site → ℕ
 firstCrowded s = first (crowded s) (used (s .links) + 1) 0
 
@@ -74,6 +74,6 @@ periodsDealt s = listed (entryDealt s (λ p. dealtUnder s p .2)) 63 0
 unfoldable pub scheduled : Site → Site
 scheduled s = withSchedule s (offsetsDealt s) (periodsDealt s)
 
--- 01, slot rule 6: the link of node n sends in slot t.
+-- 01, slot rule 6: node n has a link, and it sends in slot t.
 unfoldable pub linkSends : Site → ℕ → ℕ → Bool
-linkSends s n t = sends (ofLink (s .periods) n) (ofLink (s .offsets) n) t
+linkSends s n t = ltb 0 n && (leb n (s .links) && sends (ofLink (s .periods) n) (ofLink (s .offsets) n) t)

@@ -7,7 +7,7 @@ use lib.ListN.{getD, set, replicate}
 use Rattle.site.specs.declared.Site.{Site}
 use Rattle.site.specs.declared.Flow.{Flow}
 
--- 01, "a refused reading gives the empty site": no links, no flows, every entry 0.
+-- 01: the empty site, which a refused reading comes with. No links, no flows, every entry 0.
 abbrev pub emptySite : Site
 emptySite = record {
   links = 0;
@@ -27,7 +27,7 @@ unfoldable pub ofLink : List ℕ → ℕ → ℕ
 ofLink xs zero = 0
 ofLink xs (suc i) = getD xs i 0
 
--- 01, "A flow is live from its FLOW or its accepted admission until its accepted release": its state is 1.
+-- 01: a flow is live from its FLOW, or its admission, to its release; its state is then 1.
 unfoldable pub live : Site → ℕ → Bool
 live s n = eqb (getD (s .states) n 0) 1
 

@@ -1,4 +1,4 @@
--- 01, "A site is a tree. The root is node 0, the server." The list of parents has node n's parent at index n - 1.
+-- 01, The site: a tree whose root, the server, is node 0. The list of parents has node n's parent at index n - 1.
 use Prim.Native.Nat.{ℕ, zero, suc, _+_}
 use mathlib.Core.Bool.{Bool, true, false, cond}
 use mathlib.Core.List.{List, [], _∷_}
@@ -16,7 +16,7 @@ unfoldable pub depthIn : ℕ → List ℕ → ℕ → ℕ
 depthIn zero parents n = 0
 depthIn (suc steps) parents n = cond (ltb (up parents n) n) (depthIn steps parents (up parents n) + 1) 0
 
--- 01, "A node's depth is one more than its parent's, the root's is 0".
+-- 01, The site: a node is one deeper than its parent, and the root has depth 0.
 unfoldable pub depthOf : List ℕ → ℕ → ℕ
 depthOf parents n = depthIn n parents n
 
@@ -24,7 +24,7 @@ unfoldable pub climb : ℕ → List ℕ → ℕ → List ℕ
 climb zero parents n = []
 climb (suc steps) parents n = cond (ltb (up parents n) n) (n ∷ climb steps parents (up parents n)) []
 
--- 01, "Its route is the links from its entry node up to the root".
+-- 01, the list of demand 3: a route has the links from an entry node upward.
 unfoldable pub route : List ℕ → ℕ → List ℕ
 route parents n = climb n parents n
 

@@ -1,7 +1,7 @@
 -- The tests of 14, one law for each answer that a function of src/check.rt gives.
 use Prim.Native.Nat.{ℕ, _+_, _≤_, _<_}
 use mathlib.Core.Path.{_≡_, refl, sym, _∙_, ap}
-use mathlib.Core.Bool.{Bool, true, false, not, _&&_, false≢true, and-eq-true-iff}
+use mathlib.Core.Bool.{Bool, true, false, not, _&&_, false≢true}
 use mathlib.Core.List.{List, [], _∷_}
 use mathlib.Core.Logic.{_↔_}
 use lib.Dec.{eqb}
@@ -26,6 +26,7 @@ use Rattle.site.specs.Sites.{withSchedule}
 use Rattle.site.specs.Schedule.{scheduled}
 use Rattle.site.proofs.Laws.Judge.{judge-gives}
 use Rattle.plan.specs.Check.{shaped, nodeOf, flowOf, illNode, illFlow, formed, same, accepts, stands, passesOf}
+use Rattle.plan.proofs.Laws.Tests.{and-true}
 
 -- A site's type tells how long its lists are.
 pub shaped-site : (s : Site) (us : List Val) → Is the-row s us → shaped s ≡ true
@@ -178,5 +179,4 @@ module _ (s : Site) (shape : shaped s ≡ true) where
 -- A site that passes has 63 links at most.
 pub passes-few : (s : Site) → passesOf s ≡ true → s .links ≤ 63
 unfolding passesOf formed
-passes-few s e =
-    leb-true _ _ (and-eq-true-iff _ _ .0 (and-eq-true-iff (formed s) _ .0 (and-eq-true-iff (shaped s) _ .0 e .1) .0) .0)
+passes-few s e = leb-true _ _ (and-true _ _ (and-true (formed s) _ (and-true (shaped s) _ e .1) .0) .0)

@@ -1,11 +1,11 @@
 -- One law for each way that a check of a command or of END ends.
 use Prim.Native.Nat.{ℕ, _+_, _*_, _≤_, _<_}
 use mathlib.Core.Path.{_≡_, _∙_}
-use mathlib.Core.Bool.{false, _||_}
+use mathlib.Core.Bool.{false}
 use mathlib.Core.List.{List}
 use lib.Dec.{eqb, ltb, leb}
 use lib.ListN.{length, getD}
-use borrow.Author.Tests.{lt-ltb, le-ltb, le-leb, lt-leb, eq-eqb, ne-eqb, ltb-false, leb-false}
+use borrow.Author.Tests.{lt-ltb, le-ltb, le-leb, lt-leb, eq-eqb, ne-eqb}
 use native.Mathlib.Omega.{arith}
 use Rattle.site.specs.declared.Site.{Site}
 use Rattle.site.specs.declared.Flow.{Flow}
@@ -16,8 +16,8 @@ use Rattle.plan.specs.declared.Node.{Node}
 use Rattle.plan.specs.declared.Draft.{Draft}
 use Rattle.plan.specs.Bytes.{numberAt}
 use Rattle.plan.specs.Read.{nodeAt, flowAt, badNode, badFlow, nodeLimits, flowLimits, nodeFault, flowFault, nodeCommand, flowCommand}
-use Rattle.plan.specs.Read.{fault, nodeAdded, flowAdded, after, endOf}
-use Rattle.plan.proofs.Laws.Tests.{or-false, passed}
+use Rattle.plan.specs.Read.{fault, endOf}
+use Rattle.plan.proofs.Laws.Forms.{flow-good, node-passed}
 
 -- The limits of a NODE, check by check.
 module _ (parents : List ℕ) (k : ℕ) (n : Node) where
@@ -113,24 +113,19 @@ module _ (d : Draft) (n : Node) where
 
   -- A NODE that passes has room.
   pub node-room : nodeFault d n ≡ 0 → d .site .links < 63
-  unfolding nodeFault
-  node-room e = leb-false 63 _ (passed (leb 63 (d .site .links)) 7 _ (omega arith) (passed (ltb 0 (d .next)) 4 _ (omega arith) e .1) .0)
+  node-room e = node-passed d n e .1
 
 -- A FLOW that passes has one of the 64 numbers, and none below the next.
 pub flow-number : (d : Draft) (f : Flow) → flowFault d f ≡ 0 → (f .number < 64) × (d .next ≤ f .number)
-unfolding flowFault flowLimits badFlow
-flow-number d f e =
-    let w = passed (badFlow f) 5 _ (omega arith) e in
-    let v = passed (eqb (f .entry) 0 || (ltb (d .site .links) (f .entry) || ltb (f .number) (d .next))) 6 _ (omega arith) (w .1) in
-    let h : f .number ≤ 63 = ltb-false 63 (f .number) (or-false (ltb 63 (f .number)) _ (w .0) .0) in
-    (omega arith, ltb-false (f .number) (d .next) (or-false (ltb (d .site .links) (f .entry)) _ (or-false (eqb (f .entry) 0) _ (v .0) .1) .1))
+unfolding flowFault
+flow-number d f e = let w = flow-good (d .site .links) (d .next) f .0 e in (omega (arith, w .number-most), w .number-least)
 
 -- Numbers of two bytes and of one.
 number-two : (bytes : List ℕ) (i j : ℕ) → j ≡ i + 1 → numberAt 2 bytes i ≡ getD bytes i 0 + 256 * getD bytes j 0
 unfolding numberAt
 number-two bytes i j e = rw e (omega arith)
 
-number-one : (bytes : List ℕ) (i : ℕ) → numberAt 1 bytes i ≡ getD bytes i 0
+pub number-one : (bytes : List ℕ) (i : ℕ) → numberAt 1 bytes i ≡ getD bytes i 0
 unfolding numberAt
 number-one bytes i = omega arith
 
@@ -173,18 +168,10 @@ module _ (bytes : List ℕ) (at : ℕ) (d : Draft) where
   unfolding fault
   fault-node t r e = e ∙ simp (eq-eqb _ _ t)
 
-  pub after-node : getD bytes at 0 ≡ 1 → (e : Draft) → e ≡ nodeAdded d (nodeAt bytes at) → e ≡ after bytes at d
-  unfolding after
-  after-node t e q = q ∙ simp (eq-eqb _ _ t)
-
   -- A FLOW.
   pub fault-flow : getD bytes at 0 ≡ 2 → (r : ℕ) → r ≡ flowCommand bytes at d → r ≡ fault bytes at d
   unfolding fault
   fault-flow t r e = let n : getD bytes at 0 ≡ 1 → ⊥ = omega arith in e ∙ simp (ne-eqb _ _ n, eq-eqb _ _ t)
-
-  pub after-flow : getD bytes at 0 ≡ 2 → (e : Draft) → e ≡ flowAdded d (flowAt bytes at) → e ≡ after bytes at d
-  unfolding after
-  after-flow t e q = let n : getD bytes at 0 ≡ 1 → ⊥ = omega arith in q ∙ simp (ne-eqb _ _ n)
 
   -- Neither.
   pub fault-other : (getD bytes at 0 ≡ 1 → ⊥) → (getD bytes at 0 ≡ 2 → ⊥) → 3 ≡ fault bytes at d

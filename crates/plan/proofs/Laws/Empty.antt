@@ -3,7 +3,6 @@ use Prim.Native.Nat.{ℕ, _<_}
 use mathlib.Core.Path.{_≡_, refl, sym, _∙_, ap}
 use mathlib.Core.Bool.{true}
 use mathlib.Core.List.{List}
-use mathlib.Core.Logic.{⊎-elim}
 use lib.ListN.{length, getD, replicate, length-replicate, getD-replicate}
 use lib.Seq.{ext-getD}
 use native.Mathlib.Omega.{arith}
@@ -14,8 +13,9 @@ use Rattle.site.specs.Schedule.{used, gapsFrom, gapsUnder, crowded, firstCrowde
 use Rattle.site.specs.Reservations.{firstOver, late, firstLate}
 use Rattle.site.specs.Judge.{reserved, judgeOf}
 use Rattle.site.proofs.Laws.Schedule.{offsets-dealt-long, periods-dealt-long, entry-unused}
-use Rattle.plan.specs.Check.{shaped, illNode, illFlow, formed, same, accepts, stands, passesOf}
-use Rattle.plan.proofs.Laws.Words.{NoFlow, Formed}
+use Rattle.plan.specs.Check.{shaped, nodeOf, flowOf, illNode, illFlow, formed, same, accepts, stands, passesOf}
+use Rattle.plan.proofs.Laws.Words.{Formed}
+use Rattle.plan.proofs.Laws.Forms.{linkless-idle}
 
 pub empty-passes : passesOf emptySite ≡ true
 unfolding passesOf shaped formed any illNode illFlow stands accepts judgeOf firstCrowded first crowded gapsUnder gapsFrom used reserved firstOver
@@ -27,7 +27,7 @@ zeros xs n e each =
     ext-getD 0 xs (replicate n 0) (e ∙ sym (length-replicate n 0)) (λ i l. each i (omega arith) ∙ sym (getD-replicate n i 0 0 (omega arith)))
 
 pub linkless-empty : (s : Site) → Formed s → s ≡ scheduled s → s .links ≡ 0 → s ≡ emptySite
-unfolding scheduled withSchedule used
+unfolding scheduled withSchedule used nodeOf flowOf
 linkless-empty s g own z = λ i. record {
   links = z i;
   parents = zeros (s .parents) 63 (g .shape .parents) (λ k l. g .spare k (omega arith) .parent) i;
@@ -35,11 +35,8 @@ linkless-empty s g own z = λ i. record {
   gaps = zeros (s .gaps) 63 (g .shape .gaps) (λ k l. g .spare k (omega arith) .gap) i;
   offsets = (ap (λ (t : Site). t .offsets) own ∙ zeros (offsetsDealt s) 63 (offsets-dealt-long s) (λ k l. entry-unused s k (omega arith) l .0)) i;
   periods = (ap (λ (t : Site). t .periods) own ∙ zeros (periodsDealt s) 63 (periods-dealt-long s) (λ k l. entry-unused s k (omega arith) l .1)) i;
-  states = zeros (s .states) 64 (g .shape .states) (λ n l. idle n .idle) i;
-  entries = zeros (s .entries) 64 (g .shape .entries) (λ n l. idle n .entry) i;
-  rates = zeros (s .rates) 64 (g .shape .rates) (λ n l. idle n .rate) i;
-  deadlines = zeros (s .deadlines) 64 (g .shape .deadlines) (λ n l. idle n .deadline) i;
+  states = zeros (s .states) 64 (g .shape .states) (λ n l. linkless-idle s g z n .idle) i;
+  entries = zeros (s .entries) 64 (g .shape .entries) (λ n l. linkless-idle s g z n .entry) i;
+  rates = zeros (s .rates) 64 (g .shape .rates) (λ n l. linkless-idle s g z n .rate) i;
+  deadlines = zeros (s .deadlines) 64 (g .shape .deadlines) (λ n l. linkless-idle s g z n .deadline) i;
 }
-  where
-    idle : (n : ℕ) → NoFlow s n
-    idle n = ⊎-elim (λ f. f) (λ f. absurd (omega (arith, f .entry-some, f .entry-most))) (g .flows n)

@@ -1,66 +1,62 @@
 -- What a sound site's nodes and flows have, and that it stays sound when a flow comes or goes.
 use Prim.Native.Nat.{ℕ, zero, suc, _+_, _-_, _<_, _≤_}
-use mathlib.Core.Path.{_≡_, refl, _∙_, ap}
+use mathlib.Core.Path.{_≡_, refl, sym, ap}
 use mathlib.Core.Bool.{Bool, true, false, cond}
 use mathlib.Core.List.{List}
-use mathlib.Core.Logic.{_⊎_, inl, inr, ⊎-elim}
+use mathlib.Core.Logic.{inl, ⊎-elim}
 use lib.Dec.{eqb}
-use lib.ListN.{length, getD, set, length-set, List·getD-eq-default}
+use lib.ListN.{length, getD, set}
 use lib.Seq.{getD-set-same, getD-set-other, set-getD, set-set}
 use borrow.Author.Tests.{eqb-true, eqb-false}
-use native.Mathlib.Numerals.{add-one}
+use native.Mathlib.Decide.{ℕ-discrete}
 use native.Mathlib.Omega.{arith}
-use Rattle.pinwheel.proofs.Laws.Search.{lt-or-le}
 use Rattle.site.specs.declared.Site.{Site}
 use Rattle.site.specs.declared.Flow.{Flow}
 use Rattle.site.specs.Sites.{ofLink, live, withFields, withFlow, withoutFlow, withSchedule}
 use Rattle.site.specs.Tree.{up, route, has}
-use Rattle.site.specs.Schedule.{used, gapsUnder, rank, dealtUnder, entryDealt, offsetsDealt, periodsDealt, scheduled}
+use Rattle.site.specs.Schedule.{gapsUnder, rank, dealtUnder, entryDealt, offsetsDealt, periodsDealt, scheduled}
 use Rattle.site.specs.Reservations.{gapsJudged, routeOf, widthAt, load, along}
-use Rattle.site.proofs.Laws.Tree.{up-in, depth-route, route-root}
+use Rattle.site.proofs.Laws.Tree.{up-in, depth-up, depth-route, route-root}
 use Rattle.site.proofs.Laws.Reservations.{load-with, load-without}
 use Rattle.site.proofs.Laws.Judge.{Served, Punctual, Timed}
-use Rattle.plan.proofs.Laws.Words.{FlowFits, NoFlow, Formed, Sound}
-use Rattle.plan.proofs.Laws.Forms.{FlowGood, flow-formed}
-
-same-or-not : (k n : ℕ) → (k ≡ n) ⊎ (k ≡ n → ⊥)
-same-or-not k n = go (eqb k n) refl
-  where
-    go : (b : Bool) → eqb k n ≡ b → (k ≡ n) ⊎ (k ≡ n → ⊥)
-    go true e = inl (eqb-true k n e)
-    go false e = inr (eqb-false k n e)
+use Rattle.plan.specs.Check.{nodeOf, flowOf}
+use Rattle.plan.proofs.Laws.Words.{FlowGood, IdleAt, Formed, Sound}
+use Rattle.plan.proofs.Laws.Forms.{formed-gapped, fields-formed, flow-formed}
 
 module _ (s : Site) (g : Formed s) where
-  -- A live flow has one of the 64 numbers and is within its limits; a number without a live flow holds nothing.
+  -- A live flow is within its limits and so has one of the 64 numbers; a number without a live flow holds nothing.
+  pub live-fits : (n : ℕ) → live s n ≡ true → FlowGood (s .links) 0 (flowOf s n)
+  unfolding live
+  live-fits n l = ⊎-elim (λ f. absurd (omega (arith, f .idle, eqb-true (getD (s .states) n 0) 1 l))) (λ f. f .good) (g .flows n)
+
   pub live-few : (n : ℕ) → live s n ≡ true → n < 64
-  unfolding live
-  live-few n l = ⊎-elim (λ h. h) (λ h. absurd (none h (eqb-true (getD (s .states) n 0) 1 l))) (lt-or-le n 64)
-    where
-      none : 64 ≤ n → getD (s .states) n 0 ≡ 1 → ⊥
-      none h e = omega (arith, List·getD-eq-default (s .states) 0 {n = n} (omega (arith, g .shape .states)))
+  unfolding flowOf
+  live-few n l = omega (arith, live-fits n l .number-most)
 
-  pub live-fits : (n : ℕ) → live s n ≡ true → FlowFits s n
-  unfolding live
-  live-fits n l = ⊎-elim (λ f. absurd (omega (arith, f .idle, eqb-true (getD (s .states) n 0) 1 l))) (λ f. f) (g .flows n)
-
-  free-none : (n : ℕ) → live s n ≡ false → NoFlow s n
+  free-none : (n : ℕ) → live s n ≡ false → IdleAt s n
   unfolding live
   free-none n l = ⊎-elim (λ f. f) (λ f. absurd (eqb-false (getD (s .states) n 0) 1 l (f .live))) (g .flows n)
 
   -- A node's parent has a smaller number, and at most 8 links lead to the root.
+  parent-is : (i : ℕ) → i < s .links → up (s .parents) (suc i) ≡ nodeOf s i .parent
+  unfolding nodeOf
+  parent-is i l =
+      let e : suc i - 1 ≡ i = omega arith in
+      sym (rw e at (up-in (s .parents) (suc i) (omega arith) (omega (arith, g .few, g .shape .parents))))
+
   pub parent-below : (m : ℕ) → 1 ≤ m → m ≤ s .links → up (s .parents) m < m
   parent-below zero o l = absurd (omega arith)
-  parent-below (suc i) o l =
-      let e : suc i - 1 ≡ i = omega arith in
-      omega (arith, rw e at (up-in (s .parents) (suc i) o (omega (arith, g .few, g .shape .parents))), g .nodes i (omega arith) .parent-below)
+  parent-below (suc i) o l = omega (arith, parent-is i (omega arith), g .nodes i (omega arith) .parent-below)
 
   pub route-short : (m : ℕ) → 1 ≤ m → m ≤ s .links → length (route (s .parents) m) ≤ 8
   route-short zero o l = absurd (omega arith)
-  route-short (suc i) o l = rw (← depth-route (s .parents) (suc i)) (rw (add-one i) at (g .nodes i (omega arith) .depth-most))
+  route-short (suc i) o l =
+      rw (← depth-route (s .parents) (suc i), depth-up (s .parents) (suc i) (parent-below (suc i) o l), parent-is i (omega arith))
+      (g .nodes i (omega arith) .depth-most)
 
   -- Taking a flow from a free number changes nothing.
   pub without-none : (n : ℕ) → live s n ≡ false → withoutFlow s n ≡ s
-  unfolding withoutFlow
+  unfolding withoutFlow flowOf
   without-none n l =
       let f = free-none n l in
       rw (none (s .states) (f .idle), none (s .entries) (f .entry), none (s .rates) (f .rate), none (s .deadlines) (f .deadline))
@@ -71,56 +67,8 @@ module _ (s : Site) (g : Formed s) where
   -- Without one of its flows a site is still in form.
   formed-without : (n : ℕ) → n < 64 → Formed (withoutFlow s n)
   unfolding withoutFlow
-  formed-without n few =
-      record {
-        shape = record {
-          parents = g .shape .parents;
-          capacities = g .shape .capacities;
-          gaps = g .shape .gaps;
-          offsets = g .shape .offsets;
-          periods = g .shape .periods;
-          states = rw length-set (g .shape .states);
-          entries = rw length-set (g .shape .entries);
-          rates = rw length-set (g .shape .rates);
-          deadlines = rw length-set (g .shape .deadlines);
-        };
-        few = g .few;
-        nodes = λ i l. let f = g .nodes i l in record {
-          capacity-some = f .capacity-some;
-          capacity-most = f .capacity-most;
-          gap-some = f .gap-some;
-          gap-most = f .gap-most;
-          parent-below = f .parent-below;
-          depth-most = f .depth-most;
-        };
-        spare = λ i l. let f = g .spare i l in record { parent = f .parent; capacity = f .capacity; gap = f .gap };
-        flows = λ k. ⊎-elim (λ q. inl (rw q here)) (λ q. other k q (g .flows k)) (same-or-not k n);
-      }
-    where
-      here : NoFlow (withoutFlow s n) n
-      here = record {
-        idle = getD-set-same (s .states) n 0 0 (omega (arith, g .shape .states));
-        entry = getD-set-same (s .entries) n 0 0 (omega (arith, g .shape .entries));
-        rate = getD-set-same (s .rates) n 0 0 (omega (arith, g .shape .rates));
-        deadline = getD-set-same (s .deadlines) n 0 0 (omega (arith, g .shape .deadlines));
-      }
-
-      other : (k : ℕ) → (k ≡ n → ⊥) → NoFlow s k ⊎ FlowFits s k → NoFlow (withoutFlow s n) k ⊎ FlowFits (withoutFlow s n) k
-      other k q (inl f) = inl (record {
-        idle = getD-set-other (s .states) n k 0 0 q ∙ f .idle;
-        entry = getD-set-other (s .entries) n k 0 0 q ∙ f .entry;
-        rate = getD-set-other (s .rates) n k 0 0 q ∙ f .rate;
-        deadline = getD-set-other (s .deadlines) n k 0 0 q ∙ f .deadline;
-      })
-      other k q (inr f) = inr (record {
-        live = getD-set-other (s .states) n k 0 0 q ∙ f .live;
-        entry-some = rw (getD-set-other (s .entries) n k 0 0 q) (f .entry-some);
-        entry-most = rw (getD-set-other (s .entries) n k 0 0 q) (f .entry-most);
-        rate-some = rw (getD-set-other (s .rates) n k 0 0 q) (f .rate-some);
-        rate-most = rw (getD-set-other (s .rates) n k 0 0 q) (f .rate-most);
-        deadline-some = rw (getD-set-other (s .deadlines) n k 0 0 q) (f .deadline-some);
-        deadline-most = rw (getD-set-other (s .deadlines) n k 0 0 q) (f .deadline-most);
-      })
+  formed-without n l = fields-formed s 0 (record { number = n; entry = 0; rate = 0; deadline = 0 }) g l
+      (inl (record { idle = refl; entry = refl; rate = refl; deadline = refl }))
 
 -- A flow that is taken leaves nothing of what was put at its number.
 pub without-with : (s : Site) (f : Flow) → withoutFlow (withFlow s f) (f .number) ≡ withoutFlow s (f .number)
@@ -129,10 +77,10 @@ without-with s f = simp set-set
 
 -- What the laws of the schedule ask of a site.
 pub sound-timed : (s : Site) → Sound s → Timed s
-unfolding used scheduled withSchedule
+unfolding scheduled withSchedule nodeOf
 sound-timed s w = record {
   few = w .formed .few;
-  gapped = record { limits = λ i l. let f = w .formed .nodes i (omega arith) in (f .gap-some, f .gap-most) };
+  gapped = formed-gapped s (w .formed);
   below = λ i l. w .formed .nodes i l .parent-below;
   served = w .served;
   offsets = ap (λ (t : Site). t .offsets) (w .own);
@@ -152,19 +100,20 @@ module _ (s : Site) (w : Sound s) (n state entry rate deadline : ℕ) where
 
   punctual-kept : along (gapsJudged s) (route (s .parents) entry) ≤ deadline → Punctual (withFields s n state entry rate deadline)
   unfolding live routeOf gapsJudged
-  punctual-kept time = record { within = λ k l e. at k l e (same-or-not k n) }
-    where
-      at : (k : ℕ) → k < 64 → live (withFields s n state entry rate deadline) k ≡ true → (k ≡ n) ⊎ (k ≡ n → ⊥)
-          → along (gapsJudged s) (routeOf (withFields s n state entry rate deadline) k) ≤ getD (set (s .deadlines) n deadline) k 0
-      at k l e (inl q) =
-          rw (
-            q,
-            getD-set-same (s .entries) n entry 0 (omega (arith, w .formed .shape .entries)),
-            getD-set-same (s .deadlines) n deadline 0 (omega (arith, w .formed .shape .deadlines)),
-          ) time
-      at k l e (inr q) =
-          rw (getD-set-other (s .entries) n k entry 0 q, getD-set-other (s .deadlines) n k deadline 0 q)
-          (w .punctual .within k l (rw (getD-set-other (s .states) n k state 0 q) at e))
+  punctual-kept time = record {
+    within =
+        λ k l e. elim (ℕ-discrete k n) [
+          | yes q ↦
+              rw (
+                q,
+                getD-set-same (s .entries) n entry 0 (omega (arith, w .formed .shape .entries)),
+                getD-set-same (s .deadlines) n deadline 0 (omega (arith, w .formed .shape .deadlines)),
+              ) time
+          | no q ↦
+              rw (getD-set-other (s .entries) n k entry 0 q, getD-set-other (s .deadlines) n k deadline 0 q)
+              (w .punctual .within k l (rw (getD-set-other (s .states) n k state 0 q) at e))
+        ];
+  }
 
   sound-changed : Formed (withFields s n state entry rate deadline)
       → ((m : ℕ) → 1 ≤ m → m ≤ s .links → load (withFields s n state entry rate deadline) m ≤ ofLink (s .capacities) m)

@@ -1,6 +1,6 @@
 -- The form of nodes and flows: the tests say what the words say, and each command that passes them keeps it.
-use Prim.Native.Nat.{ℕ, zero, suc, _+_, _-_, _<_, _≤_}
-use mathlib.Core.Path.{_≡_, refl, _∙_}
+use Prim.Native.Nat.{ℕ, zero, suc, _+_, _<_, _≤_}
+use mathlib.Core.Path.{_≡_, refl}
 use mathlib.Core.Bool.{true, false, not, _&&_, _||_}
 use mathlib.Core.List.{List}
 use mathlib.Core.Logic.{_⊎_, inl, inr, ⊎-elim, _↔_}
@@ -14,26 +14,19 @@ use Rattle.pinwheel.specs.Search.{any}
 use Rattle.pinwheel.proofs.Laws.Search.{lt-or-le, any-none}
 use Rattle.site.specs.declared.Site.{Site}
 use Rattle.site.specs.declared.Flow.{Flow}
-use Rattle.site.specs.Sites.{withFlow}
+use Rattle.site.specs.Sites.{emptySite, withFields, withFlow}
 use Rattle.site.specs.Tree.{up, depthOf}
-use Rattle.site.proofs.Laws.Tree.{up-in, depth-up, depth-same}
+use Rattle.site.specs.Schedule.{used}
+use Rattle.site.proofs.Laws.Schedule.{Wellgapped}
+use Rattle.site.proofs.Laws.Tree.{depth-same}
 use Rattle.plan.specs.declared.Node.{Node}
 use Rattle.plan.specs.declared.Draft.{Draft}
 use Rattle.plan.specs.Read.{badNode, badFlow, nodeLimits, flowLimits, nodeFault, flowFault, withNode, nodeAdded, flowAdded, blank}
 use Rattle.plan.specs.Check.{shaped, nodeOf, flowOf, illNode, illFlow, formed}
-use Rattle.plan.proofs.Laws.Words.{Shape, NodeFits, NoNode, FlowFits, NoFlow, Formed, Drafted}
+use Rattle.plan.proofs.Laws.Words.{Shape, NodeGood, NoNode, FlowGood, NoFlow, LiveFlow, IdleAt, LiveAt, Formed, Drafted}
 use Rattle.plan.proofs.Laws.Tests.{or-false, and-true, passed, none-any}
-use Rattle.plan.proofs.Laws.Lists.{zeros-at}
 
--- What a node's operands have that passes 5, 6 and 8 after k others with these parents.
-pub record NodeGood (parents : List ℕ) (k : ℕ) (n : Node) : Type 0 where
-  pub capacity-some : 1 ≤ n .capacity
-  pub capacity-most : n .capacity ≤ 65535
-  pub gap-some : 1 ≤ n .gap
-  pub gap-most : n .gap ≤ 1024
-  pub parent-below : n .parent ≤ k
-  pub depth-most : depthOf parents (n .parent) + 1 ≤ 8
-
+-- What a node has that passes 5, 6 and 8 after k others with these parents.
 pub node-good : (parents : List ℕ) (k : ℕ) (n : Node) → (nodeLimits parents k n ≡ 0) ↔ NodeGood parents k n
 unfolding nodeLimits badNode
 node-good parents k n = (good, none)
@@ -66,17 +59,7 @@ node-good parents k n = (good, none)
           le-ltb _ _ (g .depth-most),
         )
 
--- What a flow's operands have that passes 5 and 6.
-pub record FlowGood (links next : ℕ) (f : Flow) : Type 0 where
-  pub number-least : next ≤ f .number
-  pub number-most : f .number ≤ 63
-  pub entry-some : 1 ≤ f .entry
-  pub entry-most : f .entry ≤ links
-  pub rate-some : 1 ≤ f .rate
-  pub rate-most : f .rate ≤ 255
-  pub deadline-some : 1 ≤ f .deadline
-  pub deadline-most : f .deadline ≤ 65535
-
+-- What a flow has that passes 5 and 6.
 pub flow-good : (links next : ℕ) (f : Flow) → (flowLimits links next f ≡ 0) ↔ FlowGood links next f
 unfolding flowLimits badFlow
 flow-good links next f = (good, none)
@@ -156,36 +139,7 @@ shape-when s = (shape, holds)
           eq-eqb _ _ (g .deadlines),
         )
 
--- The depth of the node at index i, number i + 1, is one more than its parent's.
-pub depth-next : (p : List ℕ) (i : ℕ) → i < length p → getD p i 0 ≤ i → depthOf p (i + 1) ≡ depthOf p (getD p i 0) + 1
-depth-next p i l h =
-    let e : i + 1 - 1 ≡ i = omega arith in
-    let u : getD p i 0 ≡ up p (i + 1) = rw e at (up-in p (i + 1) (omega arith) (omega arith)) in
-    rw u (depth-up p (i + 1) (omega arith))
-
 module _ (s : Site) where
-  -- A node of the list is within its limits just when its operands pass.
-  node-fits : (i : ℕ) → i < length (s .parents) → NodeGood (s .parents) i (nodeOf s i) ↔ NodeFits s i
-  unfolding nodeOf
-  node-fits i l = (
-    λ g. record {
-      capacity-some = g .capacity-some;
-      capacity-most = g .capacity-most;
-      gap-some = g .gap-some;
-      gap-most = g .gap-most;
-      parent-below = g .parent-below;
-      depth-most = omega (arith, depth-next (s .parents) i l (g .parent-below), g .depth-most);
-    },
-    λ g. record {
-      capacity-some = g .capacity-some;
-      capacity-most = g .capacity-most;
-      gap-some = g .gap-some;
-      gap-most = g .gap-most;
-      parent-below = g .parent-below;
-      depth-most = omega (arith, depth-next (s .parents) i l (g .parent-below), g .depth-most);
-    },
-  )
-
   -- What check 14 asks of an index below the number of links, and of one from there on.
   node-in : (i : ℕ) → i < s .links → (illNode s i ≡ false) ↔ NodeGood (s .parents) i (nodeOf s i)
   unfolding illNode
@@ -194,25 +148,25 @@ module _ (s : Site) where
     λ g. simp (lt-ltb i (s .links) l, eq-eqb _ _ (node-good (s .parents) i (nodeOf s i) .1 g)),
   )
 
-  node-out : (i : ℕ) → s .links ≤ i → (illNode s i ≡ false) ↔ NoNode s i
-  unfolding illNode
+  node-out : (i : ℕ) → s .links ≤ i → (illNode s i ≡ false) ↔ NoNode (nodeOf s i)
+  unfolding illNode nodeOf
   node-out i l = (
     λ e. none (not-false _ (rw (le-ltb i (s .links) l) at e)),
     λ g. simp (le-ltb i (s .links) l, eq-eqb _ _ (g .parent), eq-eqb _ _ (g .capacity), eq-eqb _ _ (g .gap)),
   )
     where
-      none : eqb (getD (s .parents) i 0) 0 && (eqb (getD (s .capacities) i 0) 0 && eqb (getD (s .gaps) i 0) 0) ≡ true → NoNode s i
+      none : eqb (getD (s .parents) i 0) 0 && (eqb (getD (s .capacities) i 0) 0 && eqb (getD (s .gaps) i 0) 0) ≡ true → NoNode (nodeOf s i)
       none e =
           let a = and-true (eqb (getD (s .parents) i 0) 0) _ e in
           let b = and-true (eqb (getD (s .capacities) i 0) 0) _ (a .1) in
           record { parent = eqb-true _ _ (a .0); capacity = eqb-true _ _ (b .0); gap = eqb-true _ _ (b .1) }
 
   -- What it asks of a flow number.
-  flow-fits : (n : ℕ) → n ≤ 63 → (illFlow s n ≡ false) ↔ (NoFlow s n ⊎ FlowFits s n)
+  flow-fits : (n : ℕ) → (illFlow s n ≡ false) ↔ (IdleAt s n ⊎ LiveAt s n)
   unfolding illFlow flowOf
-  flow-fits n l = (fits, fine)
+  flow-fits n = (fits, fine)
     where
-      fits : illFlow s n ≡ false → NoFlow s n ⊎ FlowFits s n
+      fits : illFlow s n ≡ false → IdleAt s n ⊎ LiveAt s n
       fits e =
           elim (ℕ-discrete (getD (s .states) n 0) 0) [
             | yes q ↦
@@ -223,36 +177,16 @@ module _ (s : Site) where
             | no m ↦
                 let a = and-true (eqb (getD (s .states) n 0) 1) (eqb (flowLimits (s .links) 0 (flowOf s n)) 0)
                 (not-false _ (rw (ne-eqb _ _ m) at e)) in
-                let g = flow-good (s .links) 0 (flowOf s n) .0 (eqb-true _ _ (a .1)) in
-                inr (record {
-                  live = eqb-true _ _ (a .0);
-                  entry-some = g .entry-some;
-                  entry-most = g .entry-most;
-                  rate-some = g .rate-some;
-                  rate-most = g .rate-most;
-                  deadline-some = g .deadline-some;
-                  deadline-most = g .deadline-most;
-                })
+                inr (record { live = eqb-true _ _ (a .0); good = flow-good (s .links) 0 (flowOf s n) .0 (eqb-true _ _ (a .1)) })
           ]
 
-      fine : NoFlow s n ⊎ FlowFits s n → illFlow s n ≡ false
+      fine : IdleAt s n ⊎ LiveAt s n → illFlow s n ≡ false
       fine (inl w) = simp (eq-eqb _ _ (w .idle), eq-eqb _ _ (w .entry), eq-eqb _ _ (w .rate), eq-eqb _ _ (w .deadline))
-      fine (inr w) =
-          let g : FlowGood (s .links) 0 (flowOf s n) = record {
-            number-least = omega arith;
-            number-most = l;
-            entry-some = w .entry-some;
-            entry-most = w .entry-most;
-            rate-some = w .rate-some;
-            rate-most = w .rate-most;
-            deadline-some = w .deadline-some;
-            deadline-most = w .deadline-most;
-          } in
-          simp (ne-eqb (getD (s .states) n 0) 0 (omega (arith, w .live)), eq-eqb _ _ (w .live), eq-eqb _ _ (flow-good (s .links) 0 (flowOf s n) .1 g))
+      fine (inr w) = simp (w .live, eq-eqb _ _ (flow-good (s .links) 0 (flowOf s n) .1 (w .good)))
 
 -- Check 14's tests of form.
 pub formed-when : (s : Site) → (shaped s && formed s ≡ true) ↔ Formed s
-unfolding formed
+unfolding formed nodeOf flowOf
 formed-when s = (forms, holds)
   where
     forms : shaped s && formed s ≡ true → Formed s
@@ -267,7 +201,7 @@ formed-when s = (forms, holds)
         record {
           shape = g;
           few = few;
-          nodes = λ i l. node-fits s i (omega arith) .0 (node-in s i l .0 (sound i (omega arith)));
+          nodes = λ i l. node-in s i l .0 (sound i (omega arith));
           spare =
               λ i l. ⊎-elim (λ m. node-out s i l .0 (sound i m))
               (λ m. record {
@@ -276,7 +210,7 @@ formed-when s = (forms, holds)
                 gap = List·getD-eq-default (s .gaps) 0 (omega arith);
               }) (lt-or-le i 63);
           flows =
-              λ n. ⊎-elim (λ m. flow-fits s n (omega arith) .0 (any-none (illFlow s) 64 0 (not-true _ (c .1)) n (omega arith) (omega arith)))
+              λ n. ⊎-elim (λ m. flow-fits s n .0 (any-none (illFlow s) 64 0 (not-true _ (c .1)) n (omega arith) (omega arith)))
               (λ m. inl (record {
                 idle = List·getD-eq-default (s .states) 0 (omega arith);
                 entry = List·getD-eq-default (s .entries) 0 (omega arith);
@@ -287,93 +221,90 @@ formed-when s = (forms, holds)
 
     holds : Formed s → shaped s && formed s ≡ true
     holds g =
-        let h = g .shape .parents in
         simp (
           shape-when s .1 (g .shape),
           le-leb _ _ (g .few),
           none-any (illNode s) 63
-              (λ i l. ⊎-elim (λ m. node-in s i m .1 (node-fits s i (omega (arith, h)) .1 (g .nodes i m)))
+              (λ i l. ⊎-elim (λ m. node-in s i m .1 (g .nodes i m))
               (λ m. node-out s i m .1 (g .spare i m)) (lt-or-le i (s .links))),
-          none-any (illFlow s) 64 (λ n l. flow-fits s n (omega arith) .1 (g .flows n)),
+          none-any (illFlow s) 64 (λ n l. flow-fits s n .1 (g .flows n)),
         )
+
+-- The wanted gaps are as the schedule needs them.
+pub formed-gapped : (s : Site) → Formed s → Wellgapped s
+unfolding used nodeOf
+formed-gapped s g = record { limits = λ i l. let f = g .nodes i (omega arith) in (f .gap-some, f .gap-most) }
+
+-- No flow is on a site without links.
+pub linkless-idle : (s : Site) → Formed s → s .links ≡ 0 → (n : ℕ) → IdleAt s n
+linkless-idle s g z n = ⊎-elim (λ f. f) (λ f. absurd (omega (arith, f .good .entry-some, f .good .entry-most))) (g .flows n)
 
 -- Before the first command.
 pub blank-drafted : Drafted blank
-blank-drafted = record {
-  formed = record {
-    shape = record {
-      parents = refl;
-      capacities = refl;
-      gaps = refl;
-      offsets = refl;
-      periods = refl;
-      states = refl;
-      entries = refl;
-      rates = refl;
-      deadlines = refl;
-    };
-    few = omega arith;
-    nodes = λ i l. absurd (omega arith);
-    spare = λ i l. record { parent = zeros-at 63 i; capacity = zeros-at 63 i; gap = zeros-at 63 i };
-    flows = λ n. inl (none n);
-  };
-  room = omega arith;
-  free = λ n l. none n;
-  bare = record { offsets = refl; periods = refl };
+unfolding shaped formed any illNode illFlow
+blank-drafted =
+    let g = formed-when emptySite .0 refl in
+    record {
+      formed = g;
+      room = omega arith;
+      free = λ n l. linkless-idle emptySite g refl n;
+      bare = record { offsets = refl; periods = refl };
+    }
+
+-- The limits of a node look at the parents of the k nodes before it alone.
+pub good-same : (p q : List ℕ) (k : ℕ) (n : Node) → ((m : ℕ) → m ≤ k → up p m ≡ up q m) → NodeGood q k n → NodeGood p k n
+good-same p q k n same w = record {
+  capacity-some = w .capacity-some;
+  capacity-most = w .capacity-most;
+  gap-some = w .gap-some;
+  gap-most = w .gap-most;
+  parent-below = w .parent-below;
+  depth-most = rw (depth-same p q (n .parent) (λ m l. same m (omega (arith, w .parent-below)))) (w .depth-most);
 }
-  where
-    none : (n : ℕ) → NoFlow (blank .site) n
-    none n = record { idle = zeros-at 64 n; entry = zeros-at 64 n; rate = zeros-at 64 n; deadline = zeros-at 64 n }
 
--- A change of the parent at index k, which is node k + 1's, leaves the depth of the nodes up to k.
-depth-set : (p : List ℕ) (k v n : ℕ) → n ≤ k → depthOf (set p k v) n ≡ depthOf p n
-unfolding up
-depth-set p k v n h = depth-same (set p k v) p n (λ m l. same m (omega arith))
-  where
-    same : (m : ℕ) → m ≤ k → up (set p k v) m ≡ up p m
-    same zero l = refl
-    same (suc i) l = getD-set-other p k i v (suc i) (λ e. omega arith)
+-- A flow within its limits is so on a site with more links, and from every number on that is not above its own.
+pub good-wider : (links more next least : ℕ) (f : Flow) → links ≤ more → least ≤ f .number → FlowGood links next f → FlowGood more least f
+good-wider links more next least f l h w = record {
+  number-least = h;
+  number-most = w .number-most;
+  entry-some = w .entry-some;
+  entry-most = omega (arith, w .entry-most);
+  rate-some = w .rate-some;
+  rate-most = w .rate-most;
+  deadline-some = w .deadline-some;
+  deadline-most = w .deadline-most;
+}
 
+-- One node more: it stands at the index that was next, and the other entries stay as they are.
 module _ (s : Site) (n : Node) where
-  -- A node more leaves the flows.
-  node-idle : (i : ℕ) → NoFlow s i → NoFlow (withNode s n) i
-  unfolding withNode
-  node-idle i w = record { idle = w .idle; entry = w .entry; rate = w .rate; deadline = w .deadline }
-
-  -- One node more on a site in form: the ones before it stay, and it has its operands.
-  node-old : (i : ℕ) → i < s .links → NodeFits s i → NodeFits (withNode s n) i
-  unfolding withNode
-  node-old i l w =
-      let c = getD-set-other (s .capacities) (s .links) i (n .capacity) 0 (omega arith) in
-      let g = getD-set-other (s .gaps) (s .links) i (n .gap) 0 (omega arith) in
-      let p = getD-set-other (s .parents) (s .links) i (n .parent) 0 (omega arith) in
-      record {
-        capacity-some = omega (arith, c, w .capacity-some);
-        capacity-most = omega (arith, c, w .capacity-most);
-        gap-some = omega (arith, g, w .gap-some);
-        gap-most = omega (arith, g, w .gap-most);
-        parent-below = omega (arith, p, w .parent-below);
-        depth-most = omega (arith, depth-set (s .parents) (s .links) (n .parent) (i + 1) (omega arith), w .depth-most);
-      }
-
-  node-new : Shape s → s .links < 63 → NodeGood (s .parents) (s .links) n → NodeFits (withNode s n) (s .links)
+  pub node-new : Shape s → s .links < 63 → nodeOf (withNode s n) (s .links) ≡ n
   unfolding withNode nodeOf
-  node-new long room w =
-      let c = getD-set-same (s .capacities) (s .links) (n .capacity) 0 (omega (arith, long .capacities)) in
-      let g = getD-set-same (s .gaps) (s .links) (n .gap) 0 (omega (arith, long .gaps)) in
-      let p = getD-set-same (s .parents) (s .links) (n .parent) 0 (omega (arith, long .parents)) in
-      node-fits (withNode s n) (s .links) (omega (arith, length-set (s .parents) (s .links) (n .parent), long .parents)) .0
-      (record {
-        capacity-some = omega (arith, c, w .capacity-some);
-        capacity-most = omega (arith, c, w .capacity-most);
-        gap-some = omega (arith, g, w .gap-some);
-        gap-most = omega (arith, g, w .gap-most);
-        parent-below = omega (arith, p, w .parent-below);
-        depth-most = rw (p, depth-set (s .parents) (s .links) (n .parent) (n .parent) (w .parent-below)) (w .depth-most);
-      })
+  node-new long l = λ i. record {
+    parent = getD-set-same (s .parents) (s .links) (n .parent) 0 (omega (arith, long .parents)) i;
+    capacity = getD-set-same (s .capacities) (s .links) (n .capacity) 0 (omega (arith, long .capacities)) i;
+    gap = getD-set-same (s .gaps) (s .links) (n .gap) 0 (omega (arith, long .gaps)) i;
+  }
+
+  pub node-old : (k : ℕ) → (k ≡ s .links → ⊥) → nodeOf (withNode s n) k ≡ nodeOf s k
+  unfolding withNode nodeOf
+  node-old k m = λ i. record {
+    parent = getD-set-other (s .parents) (s .links) k (n .parent) 0 m i;
+    capacity = getD-set-other (s .capacities) (s .links) k (n .capacity) 0 m i;
+    gap = getD-set-other (s .gaps) (s .links) k (n .gap) 0 m i;
+  }
+
+  -- The parents of the nodes before it stay.
+  up-there : (m : ℕ) → m ≤ s .links → up (set (s .parents) (s .links) (n .parent)) m ≡ up (s .parents) m
+  unfolding up
+  up-there zero l = refl
+  up-there (suc i) l = getD-set-other (s .parents) (s .links) i (n .parent) (suc i) (λ e. omega arith)
+
+  node-kept : (k : ℕ) (v : Node) → k ≤ s .links → NodeGood (s .parents) k v → NodeGood (withNode s n .parents) k v
+  unfolding withNode
+  node-kept k v l = good-same _ (s .parents) k v (λ m h. up-there m (omega arith))
 
   node-formed : Formed s → s .links < 63 → NodeGood (s .parents) (s .links) n → Formed (withNode s n)
-  unfolding withNode
+  unfolding withNode flowOf
   node-formed g room w = record {
     shape = record {
       parents = simp length-set (g .shape .parents);
@@ -388,133 +319,104 @@ module _ (s : Site) (n : Node) where
     };
     few = omega arith;
     nodes =
-        λ i l. ⊎-elim (λ m. node-old i m (g .nodes i m))
-        (λ m. let e : i ≡ s .links = omega arith in rw e (node-new (g .shape) room w)) (lt-or-le i (s .links));
-    spare =
-        λ i l. let v = g .spare i (omega arith) in
-        record {
-          parent = getD-set-other (s .parents) (s .links) i (n .parent) 0 (omega arith) ∙ v .parent;
-          capacity = getD-set-other (s .capacities) (s .links) i (n .capacity) 0 (omega arith) ∙ v .capacity;
-          gap = getD-set-other (s .gaps) (s .links) i (n .gap) 0 (omega arith) ∙ v .gap;
-        };
+        λ i l. elim (ℕ-discrete i (s .links)) [
+          | yes e ↦ rw (e, node-new (g .shape) room) (node-kept (s .links) n (omega arith) w)
+          | no m ↦ rw (node-old i m) (node-kept i (nodeOf s i) (omega arith) (g .nodes i (omega arith)))
+        ];
+    spare = λ i l. rw (node-old i (omega arith)) (g .spare i (omega arith));
     flows =
-        λ i. ⊎-elim (λ v. inl (node-idle i v))
-        (λ v. inr (record {
-          live = v .live;
-          entry-some = v .entry-some;
-          entry-most = omega (arith, v .entry-most);
-          rate-some = v .rate-some;
-          rate-most = v .rate-most;
-          deadline-some = v .deadline-some;
-          deadline-most = v .deadline-most;
-        })) (g .flows i);
+        λ k. ⊎-elim (λ v. inl v)
+        (λ v. inr (record { live = v .live; good = good-wider (s .links) (s .links + 1) 0 0 _ (omega arith) (omega arith) (v .good) })) (g .flows k);
   }
 
-pub node-drafted : (d : Draft) (n : Node) → Drafted d → nodeFault d n ≡ 0 → Drafted (nodeAdded d n)
-unfolding nodeFault nodeAdded withNode
-node-drafted d n g e =
+-- What a NODE has that passes: no FLOW before it, room, and its limits.
+pub node-passed : (d : Draft) (n : Node) → nodeFault d n ≡ 0
+    → (d .next ≡ 0) × (d .site .links < 63) × NodeGood (d .site .parents) (d .site .links) n
+unfolding nodeFault
+node-passed d n e =
     let a = passed (ltb 0 (d .next)) 4 _ (omega arith) e in
     let b = passed (leb 63 (d .site .links)) 7 _ (omega arith) (a .1) in
+    let z : d .next ≤ 0 = ltb-false _ _ (a .0) in
+    (omega arith, leb-false _ _ (b .0), node-good (d .site .parents) (d .site .links) n .0 (b .1))
+
+pub node-drafted : (d : Draft) (n : Node) → Drafted d → nodeFault d n ≡ 0 → Drafted (nodeAdded d n)
+unfolding nodeAdded withNode flowOf
+node-drafted d n g e =
+    let w = node-passed d n e in
     record {
-      formed = node-formed (d .site) n (g .formed) (leb-false _ _ (b .0)) (node-good (d .site .parents) (d .site .links) n .0 (b .1));
+      formed = node-formed (d .site) n (g .formed) (w .1) (w .2);
       room = g .room;
-      free = λ i l. node-idle (d .site) n i (g .free i l);
+      free = g .free;
       bare = record { offsets = g .bare .offsets; periods = g .bare .periods };
     }
 
-module _ (s : Site) (f : Flow) where
-  -- The other numbers stay as they are.
-  flow-idle : (n : ℕ) → (n ≡ f .number → ⊥) → NoFlow s n → NoFlow (withFlow s f) n
-  unfolding withFlow
-  flow-idle n m w = record {
-    idle = getD-set-other (s .states) (f .number) n 1 0 m ∙ w .idle;
-    entry = getD-set-other (s .entries) (f .number) n (f .entry) 0 m ∙ w .entry;
-    rate = getD-set-other (s .rates) (f .number) n (f .rate) 0 m ∙ w .rate;
-    deadline = getD-set-other (s .deadlines) (f .number) n (f .deadline) 0 m ∙ w .deadline;
+-- Another flow, or none, at one number: its fields stand there, and the other numbers stay as they are.
+module _ (s : Site) (state : ℕ) (f : Flow) where
+  abbrev changed : Site
+  changed = withFields s (f .number) state (f .entry) (f .rate) (f .deadline)
+
+  pub flow-new : Shape s → f .number < 64 → (getD (changed .states) (f .number) 0 ≡ state) × (flowOf changed (f .number) ≡ f)
+  unfolding flowOf
+  flow-new long l = (
+    getD-set-same (s .states) (f .number) state 0 (omega (arith, long .states)),
+    λ i. record {
+      number = f .number;
+      entry = getD-set-same (s .entries) (f .number) (f .entry) 0 (omega (arith, long .entries)) i;
+      rate = getD-set-same (s .rates) (f .number) (f .rate) 0 (omega (arith, long .rates)) i;
+      deadline = getD-set-same (s .deadlines) (f .number) (f .deadline) 0 (omega (arith, long .deadlines)) i;
+    },
+  )
+
+  pub flow-old : (n : ℕ) → (n ≡ f .number → ⊥) → (getD (changed .states) n 0 ≡ getD (s .states) n 0) × (flowOf changed n ≡ flowOf s n)
+  unfolding flowOf
+  flow-old n m = (
+    getD-set-other (s .states) (f .number) n state 0 m,
+    λ i. record {
+      number = n;
+      entry = getD-set-other (s .entries) (f .number) n (f .entry) 0 m i;
+      rate = getD-set-other (s .rates) (f .number) n (f .rate) 0 m i;
+      deadline = getD-set-other (s .deadlines) (f .number) n (f .deadline) 0 m i;
+    },
+  )
+
+  -- So a site in form stays in form.
+  pub fields-formed : Formed s → f .number < 64 → NoFlow state f ⊎ LiveFlow (s .links) state f → Formed changed
+  unfolding nodeOf
+  fields-formed g l w = record {
+    shape = record {
+      parents = g .shape .parents;
+      capacities = g .shape .capacities;
+      gaps = g .shape .gaps;
+      offsets = g .shape .offsets;
+      periods = g .shape .periods;
+      states = simp length-set (g .shape .states);
+      entries = simp length-set (g .shape .entries);
+      rates = simp length-set (g .shape .rates);
+      deadlines = simp length-set (g .shape .deadlines);
+    };
+    few = g .few;
+    nodes = g .nodes;
+    spare = g .spare;
+    flows =
+        λ n. elim (ℕ-discrete n (f .number)) [
+          | yes e ↦ let h = flow-new (g .shape) l in rw (e, h .0, h .1) w
+          | no m ↦ let h = flow-old n m in rw (h .0, h .1) (g .flows n)
+        ];
   }
 
-  flow-old : (n : ℕ) → (n ≡ f .number → ⊥) → FlowFits s n → FlowFits (withFlow s f) n
-  unfolding withFlow
-  flow-old n m w =
-      let u = getD-set-other (s .entries) (f .number) n (f .entry) 0 m in
-      let r = getD-set-other (s .rates) (f .number) n (f .rate) 0 m in
-      let d = getD-set-other (s .deadlines) (f .number) n (f .deadline) 0 m in
-      record {
-        live = getD-set-other (s .states) (f .number) n 1 0 m ∙ w .live;
-        entry-some = omega (arith, u, w .entry-some);
-        entry-most = omega (arith, u, w .entry-most);
-        rate-some = omega (arith, r, w .rate-some);
-        rate-most = omega (arith, r, w .rate-most);
-        deadline-some = omega (arith, d, w .deadline-some);
-        deadline-most = omega (arith, d, w .deadline-most);
-      }
-
-  flow-new : Shape s → FlowGood (s .links) 0 f → FlowFits (withFlow s f) (f .number)
-  unfolding withFlow
-  flow-new long w =
-      let u = getD-set-same (s .entries) (f .number) (f .entry) 0 (omega (arith, long .entries, w .number-most)) in
-      let r = getD-set-same (s .rates) (f .number) (f .rate) 0 (omega (arith, long .rates, w .number-most)) in
-      let d = getD-set-same (s .deadlines) (f .number) (f .deadline) 0 (omega (arith, long .deadlines, w .number-most)) in
-      record {
-        live = getD-set-same (s .states) (f .number) 1 0 (omega (arith, long .states, w .number-most));
-        entry-some = omega (arith, u, w .entry-some);
-        entry-most = omega (arith, u, w .entry-most);
-        rate-some = omega (arith, r, w .rate-some);
-        rate-most = omega (arith, r, w .rate-most);
-        deadline-some = omega (arith, d, w .deadline-some);
-        deadline-most = omega (arith, d, w .deadline-most);
-      }
-
--- A flow put at a free number of a site in form.
+-- A live flow more.
 pub flow-formed : (s : Site) (f : Flow) → Formed s → FlowGood (s .links) 0 f → Formed (withFlow s f)
 unfolding withFlow
-flow-formed s f g w = record {
-  shape = record {
-    parents = g .shape .parents;
-    capacities = g .shape .capacities;
-    gaps = g .shape .gaps;
-    offsets = g .shape .offsets;
-    periods = g .shape .periods;
-    states = simp length-set (g .shape .states);
-    entries = simp length-set (g .shape .entries);
-    rates = simp length-set (g .shape .rates);
-    deadlines = simp length-set (g .shape .deadlines);
-  };
-  few = g .few;
-  nodes =
-      λ i l. let v = g .nodes i l in
-      record {
-        capacity-some = v .capacity-some;
-        capacity-most = v .capacity-most;
-        gap-some = v .gap-some;
-        gap-most = v .gap-most;
-        parent-below = v .parent-below;
-        depth-most = v .depth-most;
-      };
-  spare = λ i l. let v = g .spare i l in record { parent = v .parent; capacity = v .capacity; gap = v .gap };
-  flows =
-      λ n. elim (ℕ-discrete n (f .number)) [
-        | yes e ↦ inr (rw e (flow-new s f (g .shape) w))
-        | no m ↦ ⊎-elim (λ v. inl (flow-idle s f n m v)) (λ v. inr (flow-old s f n m v)) (g .flows n)
-      ];
-}
+flow-formed s f g w = fields-formed s 1 f g (omega (arith, w .number-most)) (inr (record { live = refl; good = w }))
 
 pub flow-drafted : (d : Draft) (f : Flow) → Drafted d → flowFault d f ≡ 0 → Drafted (flowAdded d f)
 unfolding flowFault flowAdded withFlow
 flow-drafted d f g e =
     let w = flow-good (d .site .links) (d .next) f .0 e in
     record {
-      formed = flow-formed (d .site) f (g .formed) (record {
-        number-least = omega arith;
-        number-most = w .number-most;
-        entry-some = w .entry-some;
-        entry-most = w .entry-most;
-        rate-some = w .rate-some;
-        rate-most = w .rate-most;
-        deadline-some = w .deadline-some;
-        deadline-most = w .deadline-most;
-      });
+      formed = flow-formed (d .site) f (g .formed) (good-wider (d .site .links) (d .site .links) (d .next) 0 f (omega arith) (omega arith) w);
       room = omega (arith, w .number-most);
-      free = λ n l. flow-idle (d .site) f n (omega arith) (g .free n (omega (arith, w .number-least)));
+      free =
+          λ n l. let h = flow-old (d .site) 1 f n (omega arith) in rw (h .0, h .1) (g .free n (omega (arith, w .number-least)));
       bare = record { offsets = g .bare .offsets; periods = g .bare .periods };
     }

@@ -1,45 +1,45 @@
 -- Bytes to site to bytes: what a plan's bytes are read to is written to these bytes.
 use Prim.Native.Nat.{ℕ, zero, suc, _+_, _-_, _<_, _≤_}
 use mathlib.Core.Path.{_≡_, refl, sym, _∙_, ap}
-use mathlib.Core.Bool.{Bool, true, false, cond, false≢true}
+use mathlib.Core.Bool.{Bool, true, false, cond}
 use mathlib.Core.List.{List, [], _∷_, _++_, append-assoc}
 use mathlib.Core.Logic.{_⊎_, inl, inr}
-use lib.Dec.{eqb, ltb, leb}
-use lib.ListN.{length, getD, set, drop, drop-of-length-le, take-append-drop}
-use lib.Seq.{drop-cons, drop-drop, getD-set-same, getD-set-other}
+use lib.Dec.{eqb, ltb}
+use lib.ListN.{length, getD, drop, drop-of-length-le, take-append-drop}
+use lib.Seq.{drop-cons, drop-drop}
 use borrow.Author.Tests.{eqb-false, ltb-false}
 use native.Mathlib.Nat.{add-zero}
 use native.Mathlib.Decide.{ℕ-discrete}
 use native.Mathlib.Omega.{arith}
 use Rattle.pinwheel.proofs.Laws.Search.{lt-or-le}
 use Rattle.site.specs.declared.Site.{Site}
+use Rattle.site.specs.declared.Flow.{Flow}
 use Rattle.site.specs.Ruling.{Ruling, accepted}
 use Rattle.site.specs.Sites.{live, withFlow}
 use Rattle.site.specs.Judge.{refusal}
 use Rattle.plan.specs.declared.Draft.{Draft}
 use Rattle.plan.specs.declared.Node.{Node}
 use Rattle.plan.specs.Bytes.{numberAt, bytesOf}
-use Rattle.plan.specs.Check.{accepts}
-use Rattle.plan.specs.Read.{nodeAt, flowAt, nodeLimits, nodeFault, flowFault, withNode, nodeAdded, flowAdded, fault, after, endOf}
+use Rattle.plan.specs.Check.{nodeOf, flowOf, accepts}
+use Rattle.plan.specs.Read.{nodeAt, flowAt, nodeFault, flowFault, withNode, nodeAdded, flowAdded, fault, after, endOf}
 use Rattle.plan.specs.Read.{decode, blank}
 use Rattle.plan.specs.Write.{nodeBytes, flowBytes, flowIfLive, joined, planBytes}
-use Rattle.plan.proofs.Laws.Words.{Bytes, Formed, Unscheduled, Drafted}
+use Rattle.plan.proofs.Laws.Words.{Bytes, FlowGood, Formed, Unscheduled, Drafted}
 use Rattle.plan.proofs.Laws.Lists.{joined-next, joined-skip}
 use Rattle.plan.proofs.Laws.Numbers.{bytes-number}
-use Rattle.plan.proofs.Laws.Forms.{FlowGood, flow-good, blank-drafted, node-drafted, flow-drafted}
+use Rattle.plan.proofs.Laws.Forms.{flow-good, blank-drafted, node-new, node-old, node-passed, node-drafted, flow-new, flow-old, flow-drafted}
 use Rattle.plan.proofs.Laws.Decode.{decodeOn, decode-start, decode-out, decode-end, decode-stop, decode-go, fault-none}
+use Rattle.plan.proofs.Laws.Write.{live-bytes, idle-bytes}
+use Rattle.plan.proofs.Laws.Commands.{number-one}
+use Rattle.plan.proofs.Laws.Readings.{refuses}
 
 -- Later commands leave alone what has been read, and once there is a FLOW no node comes.
 pub record Keeps (d : Draft) (t : Site) : Type 0 where
   pub links-least : d .site .links ≤ t .links
   pub links-same : 0 < d .next → t .links ≡ d .site .links
-  pub parents : (i : ℕ) → i < d .site .links → getD (t .parents) i 0 ≡ getD (d .site .parents) i 0
-  pub capacities : (i : ℕ) → i < d .site .links → getD (t .capacities) i 0 ≡ getD (d .site .capacities) i 0
-  pub gaps : (i : ℕ) → i < d .site .links → getD (t .gaps) i 0 ≡ getD (d .site .gaps) i 0
+  pub nodes : (i : ℕ) → i < d .site .links → nodeOf t i ≡ nodeOf (d .site) i
   pub states : (n : ℕ) → n < d .next → getD (t .states) n 0 ≡ getD (d .site .states) n 0
-  pub entries : (n : ℕ) → n < d .next → getD (t .entries) n 0 ≡ getD (d .site .entries) n 0
-  pub rates : (n : ℕ) → n < d .next → getD (t .rates) n 0 ≡ getD (d .site .rates) n 0
-  pub deadlines : (n : ℕ) → n < d .next → getD (t .deadlines) n 0 ≡ getD (d .site .deadlines) n 0
+  pub flows : (n : ℕ) → n < d .next → flowOf t n ≡ flowOf (d .site) n
 
 -- What the writer still has to write of t after so many links and the flow numbers below `next`.
 unfoldable pub remaining : Site → ℕ → ℕ → List ℕ
@@ -53,11 +53,6 @@ pub record Ends (bytes : List ℕ) (at : ℕ) (d : Draft) (t : Site) : Type 0 wh
   pub bare : Unscheduled t
   pub some : 1 ≤ t .links
 
--- What is refused is not accepted.
-refuses : (number place : ℕ) (t : Site) → refusal number place ≡ (accepted, t) → ⊥
-unfolding accepts
-refuses number place t e = false≢true (ap (λ (w : Ruling × Site). accepts (w .0)) e)
-
 -- What an END has that is accepted.
 end-accepts : (size at : ℕ) (s t : Site) → endOf size at s ≡ (accepted, t) → (1 ≤ s .links) × (size ≤ at + 1) × (s ≡ t)
 unfolding endOf
@@ -65,40 +60,20 @@ end-accepts size at s t = go (eqb (s .links) 0) refl (ltb (at + 1) size) refl
   where
     go : (a : Bool) → eqb (s .links) 0 ≡ a → (b : Bool) → ltb (at + 1) size ≡ b
         → cond a (refusal 9 at) (cond b (refusal 10 (at + 1)) (accepted, s)) ≡ (accepted, t) → (1 ≤ s .links) × (size ≤ at + 1) × (s ≡ t)
-    go true p b q e = absurd (refuses _ _ _ e)
-    go false p true q e = absurd (refuses _ _ _ e)
+    go true p b q e = absurd (refuses _ _ _ _ e)
+    go false p true q e = absurd (refuses _ _ _ _ e)
     go false p false q e = let z : s .links ≡ 0 → ⊥ = eqb-false _ _ p in (omega arith, ltb-false _ _ q, ap (λ (w : Ruling × Site). w .1) e)
 
--- A NODE that passes comes before every FLOW.
-node-first : (d : Draft) (n : Node) → nodeFault d n ≡ 0 → d .next ≡ 0
-unfolding nodeFault
-node-first d n = go (ltb 0 (d .next)) refl
-  where
-    go : (a : Bool) → ltb 0 (d .next) ≡ a
-        → cond a 4 (cond (leb 63 (d .site .links)) 7 (nodeLimits (d .site .parents) (d .site .links) n)) ≡ 0 → d .next ≡ 0
-    go true p e = absurd (omega arith)
-    go false p e = let z : d .next ≤ 0 = ltb-false _ _ p in omega arith
-
 module _ (t : Site) where
-  idle-none : (n : ℕ) → getD (t .states) n 0 ≡ 0 → flowIfLive t n ≡ []
-  unfolding flowIfLive live
-  idle-none n e = rw e
-
-  live-some : (n : ℕ) → getD (t .states) n 0 ≡ 1 → flowIfLive t n ≡ flowBytes t n
-  unfolding flowIfLive live
-  live-some n e = rw e
-
   -- Flow numbers that are not in use are left out.
   no-flows : (next g r : ℕ) → ((n : ℕ) → next ≤ n → n < next + g → getD (t .states) n 0 ≡ 0)
       → joined (flowIfLive t) (g + r) next ≡ joined (flowIfLive t) r (next + g)
-  no-flows next g r none = joined-skip (flowIfLive t) g r next (λ n a b. idle-none n (none n a b))
+  no-flows next g r none = joined-skip (flowIfLive t) g r next (λ n a b. sym (idle-bytes t n (omega (arith, none n a b))))
 
   -- What is left to write is the next node and what is left after it.
   next-node : (k next : ℕ) → k < t .links → nodeBytes t k ++ remaining t (k + 1) next ≡ remaining t k next
   unfolding remaining
-  next-node k next l =
-      let c : t .links - k - 1 ≡ t .links - (k + 1) = omega arith in
-      rw (joined-next (nodeBytes t) (t .links - k) k (omega arith), c, append-assoc)
+  next-node k next l = rw (joined-next (nodeBytes t) (t .links) k l, append-assoc)
 
   -- After the last node it is the next flow, here number k, and what is left after it.
   next-flow : (links next k : ℕ) → t .links ≡ links → next ≤ k → k < 64 → ((n : ℕ) → next ≤ n → n < k → getD (t .states) n 0 ≡ 0)
@@ -108,31 +83,19 @@ module _ (t : Site) where
       let z : t .links - links ≡ 0 = omega arith in
       let a : 64 - next ≡ k - next + (64 - k) = omega arith in
       let b : next + (k - next) ≡ k = omega arith in
-      let c : 64 - k - 1 ≡ 64 - (k + 1) = omega arith in
       rw (
         z,
         a,
         no-flows next (k - next) (64 - k) (λ n l m. none n l (omega arith)),
         b,
-        joined-next (flowIfLive t) (64 - k) k (omega arith),
-        c,
-        live-some k one,
+        joined-next (flowIfLive t) 64 k hi,
+        ← live-bytes t k one,
         append-assoc,
       )
 
--- A list that is kept up to index k, where v was put.
-put-last : (x y : List ℕ) (k v : ℕ) → k < length y → ((i : ℕ) → i < k + 1 → getD x i 0 ≡ getD (set y k v) i 0)
-    → ((i : ℕ) → i < k → getD x i 0 ≡ getD y i 0) × (getD x k 0 ≡ v)
-put-last x y k v l same =
-    (λ i m. same i (omega arith) ∙ getD-set-other y k i v 0 (λ e. omega arith), same k (omega arith) ∙ getD-set-same y k v 0 l)
-
 module _ (bytes : List ℕ) where
-  number-byte : (at : ℕ) → numberAt 1 bytes at ≡ getD bytes at 0
-  unfolding numberAt
-  number-byte at = omega arith
-
   byte : (at next : ℕ) → at + 1 ≡ next → next ≤ length bytes → drop at bytes ≡ numberAt 1 bytes at ∷ drop next bytes
-  byte at next e h = let q : suc at ≡ next = omega arith in rw (number-byte at, drop-cons bytes at 0 (omega arith), q)
+  byte at next e h = let q : suc at ≡ next = omega arith in rw (number-one bytes at, drop-cons bytes at 0 (omega arith), q)
 
   -- After END nothing is left to write.
   end-ends : (at : ℕ) (d : Draft) → Drafted d → at < length bytes → length bytes ≤ at + 1 → getD bytes at 0 ≡ 255 → 1 ≤ d .site .links
@@ -142,13 +105,9 @@ module _ (bytes : List ℕ) where
     keeps = record {
       links-least = omega arith;
       links-same = λ _. refl;
-      parents = λ _ _. refl;
-      capacities = λ _ _. refl;
-      gaps = λ _ _. refl;
+      nodes = λ _ _. refl;
       states = λ _ _. refl;
-      entries = λ _ _. refl;
-      rates = λ _ _. refl;
-      deadlines = λ _ _. refl;
+      flows = λ _ _. refl;
     };
     rest =
         let z : d .site .links - d .site .links ≡ 0 = omega arith in
@@ -167,35 +126,31 @@ module _ (bytes : List ℕ) where
 
     module _ (at : ℕ) (t : Site) (inside : at + 6 ≤ length bytes) where
       -- The bytes of a command are written back from the operands that they are read to.
-      node-bytes : (i : ℕ) → getD bytes at 0 ≡ 1 → getD (t .parents) i 0 ≡ nodeAt bytes at .parent
-          → getD (t .capacities) i 0 ≡ nodeAt bytes at .capacity → getD (t .gaps) i 0 ≡ nodeAt bytes at .gap
-          → drop at bytes ≡ nodeBytes t i ++ drop (at + 6) bytes
-      unfolding nodeBytes nodeAt bytesOf
-      node-bytes i one p c g =
+      node-bytes : (i : ℕ) → getD bytes at 0 ≡ 1 → nodeOf t i ≡ nodeAt bytes at → drop at bytes ≡ nodeBytes t i ++ drop (at + 6) bytes
+      unfolding nodeBytes nodeAt nodeOf bytesOf
+      node-bytes i one e =
           rw (
-            p,
-            c,
-            g,
+            ap (λ (n : Node). n .parent) e,
+            ap (λ (n : Node). n .capacity) e,
+            ap (λ (n : Node). n .gap) e,
             byte at (at + 1) (omega arith) (omega arith),
-            number-byte at,
+            number-one bytes at,
             one,
             byte (at + 1) (at + 2) (omega arith) (omega arith),
             word (at + 2) (at + 4) (omega arith) (omega arith),
             word (at + 4) (at + 6) (omega arith) (omega arith),
           )
 
-      flow-bytes : (n : ℕ) → n ≡ flowAt bytes at .number → getD bytes at 0 ≡ 2
-          → getD (t .entries) n 0 ≡ flowAt bytes at .entry → getD (t .rates) n 0 ≡ flowAt bytes at .rate
-          → getD (t .deadlines) n 0 ≡ flowAt bytes at .deadline → drop at bytes ≡ flowBytes t n ++ drop (at + 6) bytes
-      unfolding flowBytes flowAt bytesOf
-      flow-bytes n q two e r d =
+      flow-bytes : (n : ℕ) → getD bytes at 0 ≡ 2 → flowOf t n ≡ flowAt bytes at → drop at bytes ≡ flowBytes t n ++ drop (at + 6) bytes
+      unfolding flowBytes flowAt flowOf bytesOf
+      flow-bytes n two e =
           rw (
-            e,
-            r,
-            d,
-            q,
+            ap (λ (f : Flow). f .entry) e,
+            ap (λ (f : Flow). f .rate) e,
+            ap (λ (f : Flow). f .deadline) e,
+            ap (λ (f : Flow). f .number) e,
             byte at (at + 1) (omega arith) (omega arith),
-            number-byte at,
+            number-one bytes at,
             two,
             byte (at + 1) (at + 2) (omega arith) (omega arith),
             byte (at + 2) (at + 3) (omega arith) (omega arith),
@@ -207,32 +162,24 @@ module _ (bytes : List ℕ) where
       module _ (d : Draft) (g : Drafted d) where
         node-ends : getD bytes at 0 ≡ 1 → nodeFault d (nodeAt bytes at) ≡ 0 → Ends bytes (at + 6) (nodeAdded d (nodeAt bytes at)) t
             → Ends bytes at d t
-        unfolding nodeAdded withNode
+        unfolding nodeAdded withNode flowOf
         node-ends one f w =
             let n = nodeAt bytes at in
             let k = d .site .links in
-            let few : k < 63 = omega (arith, node-drafted d n g f .formed .few) in
+            let few : k < 63 = node-passed d n f .1 in
             let most : k + 1 ≤ t .links = w .keeps .links-least in
-            let none : d .next ≡ 0 = node-first d n f in
-            let s = g .formed .shape in
-            let p = put-last (t .parents) (d .site .parents) k (n .parent) (rw (s .parents) few) (w .keeps .parents) in
-            let c = put-last (t .capacities) (d .site .capacities) k (n .capacity) (rw (s .capacities) few) (w .keeps .capacities) in
-            let q = put-last (t .gaps) (d .site .gaps) k (n .gap) (rw (s .gaps) few) (w .keeps .gaps) in
+            let none : d .next ≡ 0 = node-passed d n f .0 in
+            let here : nodeOf t k ≡ n = w .keeps .nodes k (omega arith) ∙ node-new (d .site) n (g .formed .shape) few in
             record {
               keeps = record {
                 links-least = omega arith;
                 links-same = λ l. absurd (omega arith);
-                parents = p .0;
-                capacities = c .0;
-                gaps = q .0;
+                nodes = λ i l. w .keeps .nodes i (omega arith) ∙ node-old (d .site) n i (omega arith);
                 states = w .keeps .states;
-                entries = w .keeps .entries;
-                rates = w .keeps .rates;
-                deadlines = w .keeps .deadlines;
+                flows = w .keeps .flows;
               };
               rest =
-                  node-bytes k one (p .1) (c .1) (q .1) ∙ ap (λ (l : List ℕ). nodeBytes t k ++ l) (w .rest)
-                  ∙ next-node t k (d .next) (omega arith);
+                  node-bytes k one here ∙ ap (λ (l : List ℕ). nodeBytes t k ++ l) (w .rest) ∙ next-node t k (d .next) (omega arith);
               formed = w .formed;
               bare = w .bare;
               some = w .some;
@@ -240,7 +187,7 @@ module _ (bytes : List ℕ) where
 
         flow-ends : getD bytes at 0 ≡ 2 → flowFault d (flowAt bytes at) ≡ 0 → Ends bytes (at + 6) (flowAdded d (flowAt bytes at)) t
             → Ends bytes at d t
-        unfolding flowAdded withFlow flowFault
+        unfolding flowAdded withFlow flowFault nodeOf
         flow-ends two f w =
             let h = flowAt bytes at in
             let k = h .number in
@@ -248,26 +195,21 @@ module _ (bytes : List ℕ) where
             let lo : d .next ≤ k = good .number-least in
             let hi : k < 64 = omega (arith, good .number-most) in
             let same : t .links ≡ d .site .links = w .keeps .links-same (omega arith) in
-            let s = g .formed .shape in
-            let a = put-last (t .states) (d .site .states) k 1 (rw (s .states) hi) (w .keeps .states) in
-            let e = put-last (t .entries) (d .site .entries) k (h .entry) (rw (s .entries) hi) (w .keeps .entries) in
-            let r = put-last (t .rates) (d .site .rates) k (h .rate) (rw (s .rates) hi) (w .keeps .rates) in
-            let b = put-last (t .deadlines) (d .site .deadlines) k (h .deadline) (rw (s .deadlines) hi) (w .keeps .deadlines) in
+            let new = flow-new (d .site) 1 h (g .formed .shape) hi in
+            let kept : (n : ℕ) → n < k → getD (t .states) n 0 ≡ getD (d .site .states) n 0 =
+            λ n l. w .keeps .states n (omega arith) ∙ flow-old (d .site) 1 h n (omega arith) .0 in
             record {
               keeps = record {
                 links-least = omega arith;
                 links-same = λ _. same;
-                parents = w .keeps .parents;
-                capacities = w .keeps .capacities;
-                gaps = w .keeps .gaps;
-                states = λ i l. a .0 i (omega arith);
-                entries = λ i l. e .0 i (omega arith);
-                rates = λ i l. r .0 i (omega arith);
-                deadlines = λ i l. b .0 i (omega arith);
+                nodes = w .keeps .nodes;
+                states = λ n l. kept n (omega arith);
+                flows = λ n l. w .keeps .flows n (omega arith) ∙ flow-old (d .site) 1 h n (omega arith) .1;
               };
               rest =
-                  flow-bytes k refl two (e .1) (r .1) (b .1) ∙ ap (λ (l : List ℕ). flowBytes t k ++ l) (w .rest)
-                  ∙ next-flow t (d .site .links) (d .next) k same lo hi (λ i l m. a .0 i m ∙ g .free i l .idle) (a .1);
+                  flow-bytes k two (w .keeps .flows k (omega arith) ∙ new .1) ∙ ap (λ (l : List ℕ). flowBytes t k ++ l) (w .rest)
+                  ∙ next-flow t (d .site .links) (d .next) k same lo hi (λ n l m. kept n m ∙ g .free n l .idle)
+                  (w .keeps .states k (omega arith) ∙ new .0);
               formed = w .formed;
               bare = w .bare;
               some = w .some;
@@ -276,7 +218,7 @@ module _ (bytes : List ℕ) where
 -- r is how many bytes are left at most.
 pub read-on : (bytes : List ℕ) → Bytes bytes → (t : Site) (r at : ℕ) (d : Draft) → length bytes ≤ at + r → Drafted d
     → decodeOn bytes at d ≡ (accepted, t) → Ends bytes at d t
-read-on bytes small t zero at d h g e = absurd (refuses _ _ _ (sym (decode-out bytes at d (omega arith)) ∙ e))
+read-on bytes small t zero at d h g e = absurd (refuses _ _ _ _ (sym (decode-out bytes at d (omega arith)) ∙ e))
 read-on bytes small t (suc r) at d h g e =
     go (lt-or-le at (length bytes)) (ℕ-discrete (getD bytes at 0) 255) (ℕ-discrete (fault bytes at d) 0) (read-on bytes small t r (at + 6))
   where
@@ -294,9 +236,9 @@ read-on bytes small t (suc r) at d h g e =
     step on q (k, inr (two, f, a)) = flow-ends bytes small at t k d g two f (on _ (omega arith) (flow-drafted d _ g f) (rw a at q))
 
     go : (at < length bytes) ⊎ (length bytes ≤ at) → Dec (getD bytes at 0 ≡ 255) → Dec (fault bytes at d ≡ 0) → On → Ends bytes at d t
-    go (inr l) b f on = absurd (refuses _ _ _ (sym (decode-out bytes at d l) ∙ e))
+    go (inr l) b f on = absurd (refuses _ _ _ _ (sym (decode-out bytes at d l) ∙ e))
     go (inl l) (yes b) f on = end l b (end-accepts _ _ _ _ (sym (decode-end bytes at d l b) ∙ e))
-    go (inl l) (no b) (no f) on = absurd (refuses _ _ _ (sym (decode-stop bytes at d l b f) ∙ e))
+    go (inl l) (no b) (no f) on = absurd (refuses _ _ _ _ (sym (decode-stop bytes at d l b f) ∙ e))
     go (inl l) (no b) (yes f) on = step on (sym (decode-go bytes at d l b f) ∙ e) (fault-none bytes at d f)
 
 pub decode-ends : (bytes : List ℕ) (t : Site) → Bytes bytes → decode bytes ≡ (accepted, t)

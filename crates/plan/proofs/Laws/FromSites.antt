@@ -10,18 +10,19 @@ use native.Mathlib.Omega.{arith}
 use Rattle.site.specs.declared.Site.{Site}
 use Rattle.site.specs.Ruling.{accepted}
 use Rattle.site.specs.Sites.{emptySite, live, withFlow, withSchedule}
-use Rattle.site.specs.Tree.{up, depthOf}
-use Rattle.site.proofs.Laws.Tree.{up-in, depth-up, depth-same}
+use Rattle.site.specs.Tree.{up}
+use Rattle.site.proofs.Laws.Tree.{up-in}
 use Rattle.plan.specs.declared.Draft.{Draft}
 use Rattle.plan.specs.Bytes.{numberAt, bytesOf}
 use Rattle.plan.specs.Read.{nodeAt, flowAt, nodeFault, flowFault, withNode, nodeAdded, flowAdded, endOf, decode}
 use Rattle.plan.specs.Check.{nodeOf, flowOf}
 use Rattle.plan.specs.Write.{nodeBytes, flowBytes, flowIfLive, joined, planBytes}
-use Rattle.plan.proofs.Laws.Words.{NodeFits, FlowFits, NoFlow, Formed}
+use Rattle.plan.proofs.Laws.Words.{NodeGood, IdleAt, LiveAt, Formed}
 use Rattle.plan.proofs.Laws.Lists.{upto, upto-long, upto-below, upto-none, upto-more, upto-skip, upto-all}
 use Rattle.plan.proofs.Laws.Numbers.{number-bytes}
-use Rattle.plan.proofs.Laws.Forms.{node-good, flow-good}
+use Rattle.plan.proofs.Laws.Forms.{node-good, flow-good, good-same, good-wider}
 use Rattle.plan.proofs.Laws.Decode.{decodeOn, decode-start, decode-end, node-passes, flow-passes}
+use Rattle.plan.proofs.Laws.Write.{live-bytes, idle-bytes}
 
 abbrev zeros : List ℕ
 zeros = replicate 63 0
@@ -70,7 +71,7 @@ up-same p k h (suc i) l =
     sym (up-in (upto k p) (suc i) (omega arith) (omega (arith, upto-long p k h))) ∙ upto-below p k (suc i - 1) h (omega arith)
     ∙ up-in p (suc i) (omega arith) (omega arith)
 
-module _ (s : Site) (k : ℕ) (f : NodeFits s k) where
+module _ (s : Site) (k : ℕ) (f : NodeGood (s .parents) k (nodeOf s k)) where
   -- The node's command, wherever it stands.
   node-there : (bytes rest : List ℕ) (at : ℕ) → drop at bytes ≡ nodeBytes s k ++ rest → nodeAt bytes at ≡ nodeOf s k
   unfolding nodeAt nodeOf nodeBytes numberAt bytesOf
@@ -85,28 +86,13 @@ module _ (s : Site) (k : ℕ) (f : NodeFits s k) where
 
   -- It passes the checks after the nodes before it.
   node-clean : length (s .parents) ≡ 63 → k < 63 → nodeFault (draft s k 0 0) (nodeOf s k) ≡ 0
-  unfolding nodeFault nodeOf part
+  unfolding nodeFault part
   node-clean long h =
-      simp (lt-leb 63 k (omega arith)) (node-good (upto k (s .parents)) k (nodeOf s k) .1 (record {
-        capacity-some = f .capacity-some;
-        capacity-most = f .capacity-most;
-        gap-some = f .gap-some;
-        gap-most = f .gap-most;
-        parent-below = f .parent-below;
-        depth-most = omega (arith, same, deeper, f .depth-most);
-      }))
-    where
-      parent : up (s .parents) (k + 1) ≡ getD (s .parents) k 0
-      parent = let e : k + 1 - 1 ≡ k = omega arith in sym (rw e at (up-in (s .parents) (k + 1) (omega arith) (omega arith)))
-
-      same : depthOf (upto k (s .parents)) (getD (s .parents) k 0) ≡ depthOf (s .parents) (getD (s .parents) k 0)
-      same = depth-same (upto k (s .parents)) (s .parents) _ (λ m l. up-same (s .parents) k (omega arith) m (omega (arith, f .parent-below)))
-
-      deeper : depthOf (s .parents) (k + 1) ≡ depthOf (s .parents) (getD (s .parents) k 0) + 1
-      deeper = rw parent at (depth-up (s .parents) (k + 1) (omega (arith, parent, f .parent-below)))
+      simp (lt-leb 63 k (omega arith))
+      (node-good (upto k (s .parents)) k (nodeOf s k) .1 (good-same _ (s .parents) k _ (up-same (s .parents) k (omega arith)) f))
 
 -- The same of a flow that is live.
-module _ (s : Site) (n : ℕ) (f : FlowFits s n) where
+module _ (s : Site) (n : ℕ) (f : LiveAt s n) where
   flow-there : (bytes rest : List ℕ) (at : ℕ) → drop at bytes ≡ flowBytes s n ++ rest → flowAt bytes at ≡ flowOf s n
   unfolding flowAt flowOf flowBytes numberAt bytesOf
   flow-there bytes rest at e =
@@ -114,21 +100,12 @@ module _ (s : Site) (n : ℕ) (f : FlowFits s n) where
       let o : numberAt 1 bytes (at + 2) ≡ getD (s .entries) n 0 = omega (arith, byte-at bytes at _ 2 e) in
       let r : numberAt 1 bytes (at + 3) ≡ getD (s .rates) n 0 = omega (arith, byte-at bytes at _ 3 e) in
       let d : numberAt 2 bytes (at + 4) ≡ getD (s .deadlines) n 0 =
-      number-bytes 2 (getD (s .deadlines) n 0) bytes rest (at + 4) (omega (arith, f .deadline-most)) (left-at bytes at _ 4 e) in
+      number-bytes 2 (getD (s .deadlines) n 0) bytes rest (at + 4) (omega (arith, f .good .deadline-most)) (left-at bytes at _ 4 e) in
       λ i. record { number = m i; entry = o i; rate = r i; deadline = d i }
 
-  flow-clean : (next : ℕ) → next ≤ n → n < 64 → flowFault (draft s (s .links) n next) (flowOf s n) ≡ 0
+  flow-clean : (next : ℕ) → next ≤ n → flowFault (draft s (s .links) n next) (flowOf s n) ≡ 0
   unfolding flowFault flowOf part
-  flow-clean next l h = flow-good (s .links) next (flowOf s n) .1 (record {
-    number-least = l;
-    number-most = omega arith;
-    entry-some = f .entry-some;
-    entry-most = f .entry-most;
-    rate-some = f .rate-some;
-    rate-most = f .rate-most;
-    deadline-some = f .deadline-some;
-    deadline-most = f .deadline-most;
-  })
+  flow-clean next l = flow-good (s .links) next (flowOf s n) .1 (good-wider (s .links) (s .links) 0 next _ (omega arith) l (f .good))
 
 module _ (s : Site) (g : Formed s) where
   -- Before the first node.
@@ -146,7 +123,7 @@ module _ (s : Site) (g : Formed s) where
 
   -- All of it is the site without its schedule.
   pub part-all : part s (s .links) 64 ≡ withSchedule s zeros zeros
-  unfolding part withSchedule
+  unfolding part withSchedule nodeOf
   part-all = rw (
     upto-all (s .parents) (s .links) (omega (arith, g .few, g .shape .parents)) (λ i l. g .spare i l .parent),
     upto-all (s .capacities) (s .links) (omega (arith, g .few, g .shape .capacities)) (λ i l. g .spare i l .capacity),
@@ -169,7 +146,7 @@ module _ (s : Site) (g : Formed s) where
     upto-more (s .gaps) k (omega (arith, g .few, g .shape .gaps)),
   )
 
-  flow-put : (n next : ℕ) → n < 64 → FlowFits s n → flowAdded (draft s (s .links) n next) (flowOf s n) ≡ draft s (s .links) (n + 1) (n + 1)
+  flow-put : (n next : ℕ) → n < 64 → LiveAt s n → flowAdded (draft s (s .links) n next) (flowOf s n) ≡ draft s (s .links) (n + 1) (n + 1)
   unfolding flowAdded withFlow flowOf part
   flow-put n next h f =
       rw (
@@ -183,8 +160,8 @@ module _ (s : Site) (g : Formed s) where
       state = rw (f .live) at (upto-more (s .states) n (omega (arith, g .shape .states)))
 
   -- A number that is not in use adds nothing.
-  flow-skip : (n : ℕ) → n < 64 → NoFlow s n → part s (s .links) (n + 1) ≡ part s (s .links) n
-  unfolding part
+  flow-skip : (n : ℕ) → n < 64 → IdleAt s n → part s (s .links) (n + 1) ≡ part s (s .links) n
+  unfolding part flowOf
   flow-skip n h f =
       rw (
         upto-skip (s .states) n (omega (arith, g .shape .states)) (f .idle),
@@ -192,15 +169,6 @@ module _ (s : Site) (g : Formed s) where
         upto-skip (s .rates) n (omega (arith, g .shape .rates)) (f .rate),
         upto-skip (s .deadlines) n (omega (arith, g .shape .deadlines)) (f .deadline),
       )
-
--- What the writer has for a number that is not in use, and for a live flow.
-no-bytes : (s : Site) (n : ℕ) → NoFlow s n → flowIfLive s n ≡ []
-unfolding flowIfLive live
-no-bytes s n f = rw (f .idle)
-
-live-bytes : (s : Site) (n : ℕ) → FlowFits s n → flowIfLive s n ≡ flowBytes s n
-unfolding flowIfLive live
-live-bytes s n f = rw (f .live)
 
 -- The reading of a node, of a flow and of the end, with what is left then.
 module _ (s : Site) (g : Formed s) (bytes : List ℕ) where
@@ -217,12 +185,12 @@ module _ (s : Site) (g : Formed s) (bytes : List ℕ) where
       there : nodeAt bytes at ≡ nodeOf s k
       there = node-there s k (g .nodes k h) bytes rest at e
 
-  flow-step : (n next at : ℕ) (rest : List ℕ) → n < 64 → next ≤ n → FlowFits s n → drop at bytes ≡ flowBytes s n ++ rest
+  flow-step : (n next at : ℕ) (rest : List ℕ) → n < 64 → next ≤ n → LiveAt s n → drop at bytes ≡ flowBytes s n ++ rest
       → (decodeOn bytes at (draft s (s .links) n next) ≡ decodeOn bytes (at + 6) (draft s (s .links) (n + 1) (n + 1))) × (drop (at + 6) bytes ≡ rest)
   unfolding flowBytes bytesOf
   flow-step n next at rest h l f e = (
     flow-passes bytes at (draft s (s .links) n next) (omega (arith, left-long bytes at _ e)) (head-at bytes at _ e)
-        (rw there (flow-clean s n f next l h))
+        (rw there (flow-clean s n f next l))
         ∙ ap (λ (d : Draft). decodeOn bytes (at + 6) d) (rw there (flow-put s g n next h f)),
     left-at bytes at _ 6 e,
   )
@@ -250,13 +218,15 @@ module _ (s : Site) (g : Formed s) (bytes : List ℕ) where
       here : drop at bytes ≡ flowIfLive s n ++ rest
       here = e ∙ append-assoc (flowIfLive s n) (joined (flowIfLive s) r (n + 1)) (255 ∷ [])
 
-      go : NoFlow s n ⊎ FlowFits s n
+      go : IdleAt s n ⊎ LiveAt s n
           → ((next at : ℕ) → n + 1 + r ≡ 64 → next ≤ n + 1 → 1 ≤ s .links → drop at bytes ≡ rest
           → decodeOn bytes at (draft s (s .links) (n + 1) next) ≡ (accepted, part s (s .links) 64))
           → decodeOn bytes at (draft s (s .links) n next) ≡ (accepted, part s (s .links) 64)
-      go (inl f) ih = rw (← flow-skip s g n (omega arith) f) (ih next at (omega arith) (omega arith) some (rw (no-bytes s n f) at here))
+      go (inl f) ih =
+          rw (← flow-skip s g n (omega arith) f)
+          (ih next at (omega arith) (omega arith) some (rw (← idle-bytes s n (omega (arith, f .idle))) at here))
       go (inr f) ih =
-          let w = flow-step n next at rest (omega arith) l f (rw (live-bytes s n f) at here) in
+          let w = flow-step n next at rest (omega arith) l f (rw (← live-bytes s n (f .live)) at here) in
           w .0 ∙ ih (n + 1) (at + 6) (omega arith) (omega arith) some (w .1)
 
   -- From the node at index k on, with r nodes left.

@@ -15,7 +15,7 @@ unfoldable pub upto : ℕ → List ℕ → List ℕ
 upto k xs = take k xs ++ replicate (length xs - k) 0
 
 -- A list of zeros has 0 at every index.
-pub zeros-at : (n i : ℕ) → getD {A = ℕ} (replicate n 0) i 0 ≡ 0
+zeros-at : (n i : ℕ) → getD {A = ℕ} (replicate n 0) i 0 ≡ 0
 zeros-at n i = ⊎-elim (λ l. getD-replicate n i 0 0 l) (λ l. List·getD-eq-default (replicate n 0) 0 (rw length-replicate l)) (lt-or-le i n)
 
 module _ (xs : List ℕ) where
@@ -54,11 +54,10 @@ module _ (xs : List ℕ) where
       (λ i l. ⊎-elim (λ m. upto-below k i h m) (λ m. upto-above k i h m ∙ sym (e i m)) (lt-or-le i k))
 
 module _ (item : ℕ → List ℕ) where
-  -- The next item, where some are left.
-  pub joined-next : (r i : ℕ) → 0 < r → joined item r i ≡ item i ++ joined item (r - 1) (i + 1)
+  -- The next of n items, where some are left.
+  pub joined-next : (n i : ℕ) → i < n → joined item (n - i) i ≡ item i ++ joined item (n - (i + 1)) (i + 1)
   unfolding joined
-  joined-next zero i h = absurd (omega arith)
-  joined-next (suc r) i h = let e : suc r - 1 ≡ r = omega arith in rw e
+  joined-next n i l = let e : n - i ≡ suc (n - (i + 1)) = omega arith in rw e
 
   -- Items that are empty leave nothing.
   pub joined-skip : (g r i : ℕ) → ((k : ℕ) → i ≤ k → k < i + g → item k ≡ []) → joined item (g + r) i ≡ joined item r (i + g)

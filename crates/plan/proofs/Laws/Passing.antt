@@ -1,7 +1,7 @@
 -- Check 14 in its three parts: the form of nodes and flows, their judgement, and that the schedule is theirs.
 use mathlib.Core.Path.{_≡_, refl, sym, _∙_, ap}
 use mathlib.Core.Bool.{true, _&&_, and-assoc, false≢true}
-use mathlib.Core.Logic.{inl, inr, ⊎-elim, _↔_}
+use mathlib.Core.Logic.{_↔_}
 use Rattle.site.specs.declared.Site.{Site}
 use Rattle.site.specs.Ruling.{Ruling, accepted, refused}
 use Rattle.site.specs.Sites.{withSchedule}
@@ -9,12 +9,12 @@ use Rattle.site.specs.Schedule.{offsetsDealt, periodsDealt, scheduled}
 use Rattle.site.specs.Judge.{judgeOf}
 use Rattle.site.proofs.Laws.Schedule.{offsets-dealt-long, periods-dealt-long}
 use Rattle.site.proofs.Laws.Judge.{scheduled-bare, judge-bare, judge-gives}
-use Rattle.plan.specs.Check.{shaped, formed, same, accepts, stands, passesOf}
+use Rattle.plan.specs.Check.{shaped, nodeOf, flowOf, formed, same, accepts, stands, passesOf}
 use Rattle.plan.proofs.Laws.Words.{Formed}
 use Rattle.plan.proofs.Laws.Tests.{and-true}
 use Rattle.plan.proofs.Laws.Forms.{formed-when}
 use Rattle.plan.proofs.Laws.Check.{same-when}
-use Rattle.plan.proofs.Laws.Reading.{accept-same}
+use Rattle.plan.proofs.Laws.Acceptance.{accept-same}
 
 -- The judgement accepts nothing but the site with its own schedule.
 accepts-when : (s : Site) → (accepts (judgeOf s .0) ≡ true) ↔ (judgeOf s ≡ (accepted, scheduled s))
@@ -47,7 +47,7 @@ passes-parts s = (
 
 -- Nothing in the form of nodes and flows looks at the schedule but the lengths of its lists.
 formed-scheduled : (s : Site) → Formed s → Formed (scheduled s)
-unfolding scheduled withSchedule
+unfolding scheduled withSchedule nodeOf flowOf
 formed-scheduled s g = record {
   shape = record {
     parents = g .shape .parents;
@@ -61,27 +61,9 @@ formed-scheduled s g = record {
     deadlines = g .shape .deadlines;
   };
   few = g .few;
-  nodes = λ i l. let f = g .nodes i l in record {
-    capacity-some = f .capacity-some;
-    capacity-most = f .capacity-most;
-    gap-some = f .gap-some;
-    gap-most = f .gap-most;
-    parent-below = f .parent-below;
-    depth-most = f .depth-most;
-  };
-  spare = λ i l. let f = g .spare i l in record { parent = f .parent; capacity = f .capacity; gap = f .gap };
-  flows = λ n. ⊎-elim
-      (λ f. inl (record { idle = f .idle; entry = f .entry; rate = f .rate; deadline = f .deadline }))
-      (λ f. inr (record {
-        live = f .live;
-        entry-some = f .entry-some;
-        entry-most = f .entry-most;
-        rate-some = f .rate-some;
-        rate-most = f .rate-most;
-        deadline-some = f .deadline-some;
-        deadline-most = f .deadline-most;
-      }))
-      (g .flows n);
+  nodes = g .nodes;
+  spare = g .spare;
+  flows = g .flows;
 }
 
 -- What the judgement accepts passes check 14.

@@ -22,38 +22,45 @@ use Rattle.plan.specs.Read.{fault, withNode, nodeAdded, flowAdded, after
 use Rattle.plan.proofs.Laws.Commands.{node-room, flow-number, node-at, flow-at}
 use Rattle.plan.proofs.Laws.Decode.{fault-none}
 
--- What comes with a refusal.
-record Bare (r : Ruling × Site) : Type 0 where
-  bare : (number place : ℕ) → r .0 ≡ refused number place → r .1 ≡ emptySite
+-- What is refused is not accepted.
+pub refuses : (number place : ℕ) (s t : Site) → _≡_ {A = Ruling × Site} (refused number place, s) (accepted, t) → ⊥
+refuses number place s t e =
+    let f : refused number place ≡ accepted = ap (λ (r : Ruling × Site). r .0) e in
+    let z : _≡_ {A = ℕ} 0 1 = cc in
+    omega arith
 
-bare-refusal : (number place : ℕ) → Bare (refusal number place)
-bare-refusal number place = record { bare = λ n p e. refl }
+-- A refusal comes with the empty site.
+pub record Emptied (r : Ruling × Site) : Type 0 where
+  pub site : (number place : ℕ) → r .0 ≡ refused number place → r .1 ≡ emptySite
 
-bare-accepted : (s : Site) → Bare (accepted, s)
-bare-accepted s = record { bare = λ n p e. absurd (let z : _≡_ {A = ℕ} 0 1 = cc in omega arith) }
+pub emptied-refusal : (number place : ℕ) → Emptied (refusal number place)
+emptied-refusal number place = record { site = λ n p e. refl }
 
-bare-both : (t : Bool) {x y : Ruling × Site} → Bare x → Bare y → Bare (cond t x y)
-bare-both true p q = p
-bare-both false p q = q
+pub emptied-accepted : (s : Site) → Emptied (accepted, s)
+emptied-accepted s = record { site = λ n p e. absurd (refuses n p s s (ap (λ (r : Ruling). (r, s)) (sym e))) }
 
-bare-end : (size at : ℕ) (s : Site) → Bare (endOf size at s)
+pub emptied-both : (t : Bool) {x y : Ruling × Site} → Emptied x → Emptied y → Emptied (cond t x y)
+emptied-both true p q = p
+emptied-both false p q = q
+
+emptied-end : (size at : ℕ) (s : Site) → Emptied (endOf size at s)
 unfolding endOf
-bare-end size at s =
-    bare-both (eqb (s .links) 0) (bare-refusal 9 at) (bare-both (ltb (at + 1) size) (bare-refusal 10 (at + 1)) (bare-accepted s))
+emptied-end size at s =
+    emptied-both (eqb (s .links) 0) (emptied-refusal 9 at) (emptied-both (ltb (at + 1) size) (emptied-refusal 10 (at + 1)) (emptied-accepted s))
 
-bare-from : (steps : ℕ) (bytes : List ℕ) (at : ℕ) (d : Draft) → Bare (decodeFrom steps bytes at d)
+emptied-from : (steps : ℕ) (bytes : List ℕ) (at : ℕ) (d : Draft) → Emptied (decodeFrom steps bytes at d)
 unfolding decodeFrom
-bare-from zero bytes at d = bare-refusal 2 (length bytes)
-bare-from (suc f) bytes at d =
-    bare-both (ltb at (length bytes))
-    (bare-both (eqb (getD bytes at 0) 255) (bare-end (length bytes) at (d .site))
-    (bare-both (eqb (fault bytes at d) 0) (bare-from f bytes (at + 6) (after bytes at d)) (bare-refusal (fault bytes at d) at)))
-    (bare-refusal 2 (length bytes))
+emptied-from zero bytes at d = emptied-refusal 2 (length bytes)
+emptied-from (suc f) bytes at d =
+    emptied-both (ltb at (length bytes))
+    (emptied-both (eqb (getD bytes at 0) 255) (emptied-end (length bytes) at (d .site))
+    (emptied-both (eqb (fault bytes at d) 0) (emptied-from f bytes (at + 6) (after bytes at d)) (emptied-refusal (fault bytes at d) at)))
+    (emptied-refusal 2 (length bytes))
 
 -- Every refused reading of the form gives the empty site.
 pub decode-refused : (bytes : List ℕ) (number place : ℕ) → decode bytes .0 ≡ refused number place → decode bytes .1 ≡ emptySite
 unfolding decode
-decode-refused bytes = bare-from (length bytes) bytes 0 blank .bare
+decode-refused bytes = emptied-from (length bytes) bytes 0 blank .site
 
 -- How far a reading can come: a NODE makes one of at most 63 links, and a FLOW raises the next number, at most 64.
 record Within (at : ℕ) (d : Draft) : Type 0 where

@@ -6,8 +6,9 @@ use native.Mathlib.Omega.{arith}
 use Rattle.site.specs.declared.Site.{Site}
 use Rattle.site.specs.Sites.{live}
 use Rattle.plan.specs.Bytes.{bytesOf}
+use Rattle.plan.specs.Check.{nodeOf, flowOf}
 use Rattle.plan.specs.Write.{nodeBytes, flowBytes, flowIfLive, joined, planBytes}
-use Rattle.plan.proofs.Laws.Words.{Bytes, NodeFits, FlowFits, NoFlow, Formed}
+use Rattle.plan.proofs.Laws.Words.{Bytes, NodeGood, IdleAt, LiveAt, Formed}
 
 -- The same as a record, so that the prover finds the lists in a goal.
 record Small (bytes : List ℕ) : Type 0 where
@@ -37,17 +38,18 @@ unfolding bytesOf
 small-number zero v = small-none
 small-number (suc w) v = small-first (omega arith) (small-number w (v / 256))
 
-small-node : (s : Site) (i : ℕ) → i < 63 → NodeFits s i → Small (nodeBytes s i)
-unfolding nodeBytes
+small-node : (s : Site) (i : ℕ) → i < 63 → NodeGood (s .parents) i (nodeOf s i) → Small (nodeBytes s i)
+unfolding nodeBytes nodeOf
 small-node s i h f =
     small-first (omega arith) (small-first (omega (arith, f .parent-below)) (small-append (small-number 2 _) (small-number 2 _)))
 
-small-flow : (s : Site) (n : ℕ) → s .links ≤ 63 → n < 64 → NoFlow s n ⊎ FlowFits s n → Small (flowIfLive s n)
-unfolding flowIfLive flowBytes live
-small-flow s n few h (inl f) = rw (f .idle) small-none
-small-flow s n few h (inr f) = rw (f .live)
-    (small-first (omega arith) (small-first (omega arith) (small-first (omega (arith, f .entry-most))
-    (small-first (omega (arith, f .rate-most)) (small-number 2 _)))))
+small-flow : (s : Site) (n : ℕ) → s .links ≤ 63 → IdleAt s n ⊎ LiveAt s n → Small (flowIfLive s n)
+unfolding flowIfLive flowBytes flowOf live
+small-flow s n few (inl f) = rw (f .idle) small-none
+small-flow s n few (inr f) =
+    let w = f .good in
+    rw (f .live) (small-first (omega arith) (small-first (omega (arith, w .number-most)) (small-first (omega (arith, w .entry-most))
+    (small-first (omega (arith, w .rate-most)) (small-number 2 _)))))
 
 pub plan-small : (s : Site) → Formed s → Bytes (planBytes s)
 unfolding planBytes
@@ -56,4 +58,4 @@ plan-small s g = all .each
     all : Small (planBytes s)
     all =
         small-append (small-joined (nodeBytes s) (s .links) 0 (λ i l. small-node s i (omega (arith, g .few)) (g .nodes i (omega arith))))
-        (small-append (small-joined (flowIfLive s) 64 0 (λ n l. small-flow s n (g .few) l (g .flows n))) (small-first (omega arith) small-none))
+        (small-append (small-joined (flowIfLive s) 64 0 (λ n l. small-flow s n (g .few) (g .flows n))) (small-first (omega arith) small-none))

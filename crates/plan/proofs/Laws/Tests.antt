@@ -1,7 +1,7 @@
 -- Tests that are joined, and choices that come to 0.
 use Prim.Native.Nat.{ℕ, _<_}
 use mathlib.Core.Path.{_≡_, refl, sym, _∙_}
-use mathlib.Core.Bool.{Bool, true, false, cond, _&&_, _||_, false≢true}
+use mathlib.Core.Bool.{Bool, true, false, cond, _&&_, _||_, false≢true, and-eq-true-iff}
 use native.Mathlib.Omega.{arith}
 use Rattle.pinwheel.specs.Search.{any}
 use Rattle.pinwheel.proofs.Laws.Search.{any-some}
@@ -11,8 +11,7 @@ or-false true b e = absurd (false≢true (sym e))
 or-false false b e = (refl, e)
 
 pub and-true : (a b : Bool) → a && b ≡ true → (a ≡ true) × (b ≡ true)
-and-true true b e = (refl, e)
-and-true false b e = absurd (false≢true e)
+and-true a b = and-eq-true-iff a b .0
 
 -- A check with number m that is passed leaves the rest.
 pub passed : (t : Bool) (m n : ℕ) → 0 < m → cond t m n ≡ 0 → (t ≡ false) × (n ≡ 0)

@@ -5,10 +5,13 @@ use mathlib.Core.List.{List}
 use mathlib.Core.Logic.{_⊎_}
 use lib.ListN.{length, getD, replicate}
 use Rattle.site.specs.declared.Site.{Site}
+use Rattle.site.specs.declared.Flow.{Flow}
 use Rattle.site.specs.Tree.{depthOf}
 use Rattle.site.specs.Schedule.{scheduled}
 use Rattle.site.proofs.Laws.Judge.{Served, Carried, Punctual}
+use Rattle.plan.specs.declared.Node.{Node}
 use Rattle.plan.specs.declared.Draft.{Draft}
+use Rattle.plan.specs.Check.{nodeOf, flowOf}
 
 -- Every number of the list is one of 8 bits.
 abbrev pub Bytes : List ℕ → Type 0
@@ -26,45 +29,60 @@ pub record Shape (s : Site) : Type 0 where
   pub rates : length (s .rates) ≡ 64
   pub deadlines : length (s .deadlines) ≡ 64
 
--- The node at index i, number i + 1, is within its limits: its parent has a smaller number, its depth is at most 8.
-pub record NodeFits (s : Site) (i : ℕ) : Type 0 where
-  pub capacity-some : 1 ≤ getD (s .capacities) i 0
-  pub capacity-most : getD (s .capacities) i 0 ≤ 65535
-  pub gap-some : 1 ≤ getD (s .gaps) i 0
-  pub gap-most : getD (s .gaps) i 0 ≤ 1024
-  pub parent-below : getD (s .parents) i 0 ≤ i
-  pub depth-most : depthOf (s .parents) (i + 1) ≤ 8
+-- A node that comes after k others with these parents: capacity and gap are within 01's limits, its parent is one of these k or the root, and
+-- its depth is at most 8.
+pub record NodeGood (parents : List ℕ) (k : ℕ) (n : Node) : Type 0 where
+  pub capacity-some : 1 ≤ n .capacity
+  pub capacity-most : n .capacity ≤ 65535
+  pub gap-some : 1 ≤ n .gap
+  pub gap-most : n .gap ≤ 1024
+  pub parent-below : n .parent ≤ k
+  pub depth-most : depthOf parents (n .parent) + 1 ≤ 8
 
--- Index i holds no node.
-pub record NoNode (s : Site) (i : ℕ) : Type 0 where
-  pub parent : getD (s .parents) i 0 ≡ 0
-  pub capacity : getD (s .capacities) i 0 ≡ 0
-  pub gap : getD (s .gaps) i 0 ≡ 0
+-- There is no node: its entries are 0.
+pub record NoNode (n : Node) : Type 0 where
+  pub parent : n .parent ≡ 0
+  pub capacity : n .capacity ≡ 0
+  pub gap : n .gap ≡ 0
 
--- The flow with number n is live and within its limits, on a node of the site.
-pub record FlowFits (s : Site) (n : ℕ) : Type 0 where
-  pub live : getD (s .states) n 0 ≡ 1
-  pub entry-some : 1 ≤ getD (s .entries) n 0
-  pub entry-most : getD (s .entries) n 0 ≤ s .links
-  pub rate-some : 1 ≤ getD (s .rates) n 0
-  pub rate-most : getD (s .rates) n 0 ≤ 255
-  pub deadline-some : 1 ≤ getD (s .deadlines) n 0
-  pub deadline-most : getD (s .deadlines) n 0 ≤ 65535
+-- A flow on a site with so many links: its number is at least `next`, and number, rate and deadline are within 01's limits; it enters at one of
+-- the nodes, not at the root.
+pub record FlowGood (links next : ℕ) (f : Flow) : Type 0 where
+  pub number-least : next ≤ f .number
+  pub number-most : f .number ≤ 63
+  pub entry-some : 1 ≤ f .entry
+  pub entry-most : f .entry ≤ links
+  pub rate-some : 1 ≤ f .rate
+  pub rate-most : f .rate ≤ 255
+  pub deadline-some : 1 ≤ f .deadline
+  pub deadline-most : f .deadline ≤ 65535
 
--- Number n is not in use.
-pub record NoFlow (s : Site) (n : ℕ) : Type 0 where
-  pub idle : getD (s .states) n 0 ≡ 0
-  pub entry : getD (s .entries) n 0 ≡ 0
-  pub rate : getD (s .rates) n 0 ≡ 0
-  pub deadline : getD (s .deadlines) n 0 ≡ 0
+-- There is no flow: its state and its fields are 0.
+pub record NoFlow (state : ℕ) (f : Flow) : Type 0 where
+  pub idle : state ≡ 0
+  pub entry : f .entry ≡ 0
+  pub rate : f .rate ≡ 0
+  pub deadline : f .deadline ≡ 0
+
+-- The flow is live and within its limits.
+pub record LiveFlow (links state : ℕ) (f : Flow) : Type 0 where
+  pub live : state ≡ 1
+  pub good : FlowGood links 0 f
+
+-- Number n of the site is not in use, or has a live flow.
+abbrev pub IdleAt : Site → ℕ → Type 0
+IdleAt s n = NoFlow (getD (s .states) n 0) (flowOf s n)
+
+abbrev pub LiveAt : Site → ℕ → Type 0
+LiveAt s n = LiveFlow (s .links) (getD (s .states) n 0) (flowOf s n)
 
 -- Nodes and flows are in form and limits, and what is not in use is 0. Nothing is said of the schedule.
 pub record Formed (s : Site) : Type 0 where
   pub shape : Shape s
   pub few : s .links ≤ 63
-  pub nodes : (i : ℕ) → i < s .links → NodeFits s i
-  pub spare : (i : ℕ) → s .links ≤ i → NoNode s i
-  pub flows : (n : ℕ) → NoFlow s n ⊎ FlowFits s n
+  pub nodes : (i : ℕ) → i < s .links → NodeGood (s .parents) i (nodeOf s i)
+  pub spare : (i : ℕ) → s .links ≤ i → NoNode (nodeOf s i)
+  pub flows : (n : ℕ) → IdleAt s n ⊎ LiveAt s n
 
 -- There is no schedule yet.
 pub record Unscheduled (s : Site) : Type 0 where
@@ -75,7 +93,7 @@ pub record Unscheduled (s : Site) : Type 0 where
 pub record Drafted (d : Draft) : Type 0 where
   pub formed : Formed (d .site)
   pub room : d .next ≤ 64
-  pub free : (n : ℕ) → d .next ≤ n → NoFlow (d .site) n
+  pub free : (n : ℕ) → d .next ≤ n → IdleAt (d .site) n
   pub bare : Unscheduled (d .site)
 
 -- A site that passes check 14.

@@ -15,6 +15,7 @@ use Rattle.site.specs.Sites.{live}
 use Rattle.plan.specs.Bytes.{bytesOf}
 use Rattle.plan.specs.Check.{passesOf}
 use Rattle.plan.specs.Write.{nodeBytes, flowBytes, linkBytes, joined, flowIfLive, planBytes, scheduleBytes, written, writtenIf}
+use Rattle.plan.proofs.Laws.Lists.{joined-next}
 
 sets-append : (d : List ℕ) (at : ℕ) (xs ys : List ℕ) → sets d at (xs ++ ys) ≡ sets (sets d at xs) (at + length xs) ys
 sets-append d at [] ys = let e : at + 0 ≡ at = omega arith in rw e
@@ -27,15 +28,10 @@ pub record Passed (bytes : ℕ → List ℕ) (n start i at : ℕ) : Type 0 where
   pub most : i ≤ n
   pub place : at + length (joined bytes (n - i) i) ≡ start + length (joined bytes n 0)
 
--- The items from i on.
-module _ (bytes : ℕ → List ℕ) (n : ℕ) where
-  rest : (i : ℕ) → i < n → joined bytes (n - i) i ≡ bytes i ++ joined bytes (n - (i + 1)) (i + 1)
-  unfolding joined
-  rest i l = let e : n - i ≡ suc (n - (i + 1)) = omega arith in rw e
-
-  none : (i : ℕ) → n ≤ i → joined bytes (n - i) i ≡ []
-  unfolding joined
-  none i l = let e : n - i ≡ 0 = omega arith in rw e
+-- No item is left.
+none : (bytes : ℕ → List ℕ) (n i : ℕ) → n ≤ i → joined bytes (n - i) i ≡ []
+unfolding joined
+none bytes n i l = let e : n - i ≡ 0 = omega arith in rw e
 
 module _ (bytes : ℕ → List ℕ) (n start : ℕ) where
   pub passed-start : Passed bytes n start 0 start
@@ -43,7 +39,7 @@ module _ (bytes : ℕ → List ℕ) (n start : ℕ) where
 
   module _ (i at : ℕ) (p : Passed bytes n start i at) where
     passed-next : i < n → at + length (bytes i) + length (joined bytes (n - (i + 1)) (i + 1)) ≡ start + length (joined bytes n 0)
-    passed-next l = omega (arith, p .place, ap length (rest bytes n i l) ∙ length-append (bytes i) (joined bytes (n - (i + 1)) (i + 1)))
+    passed-next l = omega (arith, p .place, ap length (joined-next bytes n i l) ∙ length-append (bytes i) (joined bytes (n - (i + 1)) (i + 1)))
 
     -- The next item fits where all fit.
     passed-room : i < n → at + length (bytes i) ≤ start + length (joined bytes n 0)
@@ -71,7 +67,7 @@ module _ (bytes : ℕ → List ℕ) (n start : ℕ) (d : List ℕ) where
     stored-more b new m l e q h = record {
       passed = passed-more bytes n start i at (s .passed) m l (h ∙ ap (λ (x : List ℕ). at + length x) e);
       long = rw q (length-sets out at b ∙ s .long);
-      stores = rw (q, h, e, ← sets-append out at (bytes i) (joined bytes (n - (i + 1)) (i + 1)), ← rest bytes n i l) (s .stores);
+      stores = rw (q, h, e, ← sets-append out at (bytes i) (joined bytes (n - (i + 1)) (i + 1)), ← joined-next bytes n i l) (s .stores);
     }
 
     pub stored-end : n ≤ i → (out ≡ sets d start (joined bytes n 0)) × (at ≡ start + length (joined bytes n 0))

@@ -1,12 +1,12 @@
 -- The judgement of 11, 12 and 13 in words of 'for all' and 'exists', and what a site has whose nodes pass it.
-use Prim.Native.Nat.{ℕ, zero, suc, _+_, _≤_, _<_}
+use Prim.Native.Nat.{ℕ, zero, suc, _+_, _%_, _≤_, _<_}
 use mathlib.Core.Path.{_≡_, refl, sym, _∙_, ap}
 use mathlib.Core.Bool.{Bool, true, false, cond, _&&_, false≢true}
 use mathlib.Core.List.{List, [], _∷_}
 use mathlib.Core.Logic.{_⊎_, inl, inr, ⊎-elim, _↔_}
 use lib.Dec.{ltb, leb, eqb}
 use lib.ListN.{length, getD}
-use borrow.Author.Tests.{le-ltb, lt-leb, eq-eqb, ne-eqb, ltb-false, leb-false, eqb-false}
+use borrow.Author.Tests.{lt-ltb, le-ltb, le-leb, lt-leb, eq-eqb, ne-eqb, ltb-true, ltb-false, leb-true, leb-false, eqb-false}
 use native.Mathlib.Numerals.{add-one}
 use native.Mathlib.Omega.{arith}
 use Rattle.pinwheel.specs.Search.{first, smallest}
@@ -201,6 +201,22 @@ along-rises xs ys (m ∷ ms) h =
     later true x e = refl
     later false x e = e
 
+-- Node n has a link, and slot t is one of its offset.
+abbrev pub SendsAt : Site → ℕ → ℕ → Type 0
+SendsAt s n t = (1 ≤ n) × (n ≤ s .links) × (t % ofLink (s .periods) n ≡ ofLink (s .offsets) n)
+
+pub sends-in : (s : Site) (n t : ℕ) → (linkSends s n t ≡ true) ↔ SendsAt s n t
+unfolding linkSends
+sends-in s n t = (
+  λ e. let a = both (ltb 0 n) _ e in let b = both (leb n (s .links)) _ (a .1) in
+      (ltb-true 0 n (a .0), leb-true n (s .links) (b .0), sends-when _ _ _ .0 (b .1)),
+  λ w. rw (lt-ltb 0 n (w .0), le-leb n (s .links) (w .1), sends-when (ofLink (s .periods) n) (ofLink (s .offsets) n) t .1 (w .2)),
+)
+  where
+    both : (x y : Bool) → x && y ≡ true → (x ≡ true) × (y ≡ true)
+    both true y e = (refl, e)
+    both false y e = absurd (false≢true e)
+
 module _ (s : Site) (h : Timed s) where
   -- Every link is placed under its parent.
   placed : (p i : ℕ) → i < s .links → getD (s .parents) i 0 ≡ p → Placed s p i
@@ -230,37 +246,52 @@ module _ (s : Site) (h : Timed s) where
           × (getD (periodsDealt s) i 0 ≡ getD (dealtUnder s p .2) (rank s p i) 0)
       x = entry-at s p i (omega (arith, all)) e (omega (arith, all, h .below i a))
 
-  -- A slot in which the link sends is one in which the child at its place does.
-  slot : (p i t : ℕ) → Placed s p i → linkSends s (i + 1) t ≡ true
+  -- A slot of a link's offset is one in which the child at its place sends.
+  slot : (p i t : ℕ) → Placed s p i → t % getD (s .periods) i 0 ≡ getD (s .offsets) i 0
       → SendsIn (periodsOf 2 (gapsUnder s p)) (offsetsOf 2 (gapsUnder s p)) (rank s p i) t
-  unfolding linkSends ofLink
-  slot p i t w u = rw (← w .period, ← w .offset) (sends-when _ _ _ .0 (rw (add-one i) at u))
+  slot p i t w u = rw (← w .period, ← w .offset) u
 
-  -- 01, "Children of one parent never send in the same slot".
-  pub siblings-apart : (i k t : ℕ) → i < s .links → k < s .links → (i ≡ k → ⊥) → getD (s .parents) i 0 ≡ getD (s .parents) k 0
-      → linkSends s (i + 1) t ≡ true → linkSends s (k + 1) t ≡ true → ⊥
-  siblings-apart i k t a b n e u v =
-      let p = getD (s .parents) k 0 in
-      let x = placed p i a e in
-      let y = placed p k b refl in
-      never-together 2 (omega arith) (gapsUnder s p) (x .base-some) _ _ t (x .among) (y .among) (apart (lt-or-le i k))
-      (slot p i t x u) (slot p k t y v)
+  -- 01, The site: two links of one parent share no slot.
+  pub siblings-apart : (n m t : ℕ) → (n ≡ m → ⊥) → ofLink (s .parents) n ≡ ofLink (s .parents) m
+      → linkSends s n t ≡ true → linkSends s m t ≡ true → ⊥
+  unfolding ofLink
+  siblings-apart n m t d e u v = go n m d e (sends-in s n t .0 u) (sends-in s m t .0 v)
     where
-      apart : (i < k) ⊎ (k ≤ i) → rank s (getD (s .parents) k 0) i ≡ rank s (getD (s .parents) k 0) k → ⊥
-      apart (inl l) q = omega (arith, rank-apart s (getD (s .parents) k 0) i k l e)
-      apart (inr l) q = omega (arith, rank-apart s (getD (s .parents) k 0) k i (omega arith) refl)
+      apart : (i k : ℕ) → getD (s .parents) i 0 ≡ getD (s .parents) k 0 → (i ≡ k → ⊥) → (i < k) ⊎ (k ≤ i)
+          → rank s (getD (s .parents) k 0) i ≡ rank s (getD (s .parents) k 0) k → ⊥
+      apart i k e d (inl l) q = omega (arith, rank-apart s (getD (s .parents) k 0) i k l e)
+      apart i k e d (inr l) q = omega (arith, rank-apart s (getD (s .parents) k 0) k i (omega arith) refl)
+
+      go : (n m : ℕ) → (n ≡ m → ⊥) → ofLink (s .parents) n ≡ ofLink (s .parents) m → SendsAt s n t → SendsAt s m t → ⊥
+      go zero m d e u v = omega (arith, u .0)
+      go (suc i) zero d e u v = omega (arith, v .0)
+      go (suc i) (suc k) d e u v =
+          let p = getD (s .parents) k 0 in
+          let x = placed p i (omega (arith, u .1)) e in
+          let y = placed p k (omega (arith, v .1)) refl in
+          never-together 2 (omega arith) (gapsUnder s p) (x .base-some) _ _ t (x .among) (y .among)
+          (apart i k e (λ q. d (omega arith)) (lt-or-le i k)) (slot p i t x (u .2)) (slot p k t y (v .2))
 
   -- In every run of `period` slots a link sends exactly once.
-  pub link-once : (i start : ℕ) → i < s .links → Once (getD (s .periods) i 0) (getD (s .offsets) i 0) start
-  link-once i start a =
-      let x = placed (getD (s .parents) i 0) i a refl in
-      rw (x .period, x .offset) (once-a-period 2 (omega arith) (gapsUnder s (getD (s .parents) i 0)) (x .base-some) _ start (x .among))
+  pub link-once : (n start : ℕ) → 1 ≤ n → n ≤ s .links
+      → (t : ℕ) × (start ≤ t) × (t < start + ofLink (s .periods) n) × (linkSends s n t ≡ true)
+      × ((u : ℕ) → start ≤ u → u < start + ofLink (s .periods) n → linkSends s n u ≡ true → u ≡ t)
+  unfolding ofLink
+  link-once zero start o l = absurd (omega arith)
+  link-once (suc i) start o l =
+      let p = getD (s .parents) i 0 in
+      let x = placed p i (omega arith) refl in
+      let w : Once (getD (s .periods) i 0) (getD (s .offsets) i 0) start =
+      rw (x .period, x .offset) (once-a-period 2 (omega arith) (gapsUnder s p) (x .base-some) _ start (x .among)) in
+      (w .0, w .1, w .2, sends-in s (suc i) (w .0) .1 (o, l, w .3), λ u a b q. w .4 u a b (sends-in s (suc i) u .0 q .2))
 
   -- A link's period is at least 1 and at most its wanted gap.
-  pub period-within : (i : ℕ) → i < s .links → (1 ≤ getD (s .periods) i 0) × (getD (s .periods) i 0 ≤ getD (s .gaps) i 0)
-  period-within i a =
+  pub period-within : (n : ℕ) → 1 ≤ n → n ≤ s .links → (1 ≤ ofLink (s .periods) n) × (ofLink (s .periods) n ≤ ofLink (s .gaps) n)
+  unfolding ofLink
+  period-within zero o l = absurd (omega arith)
+  period-within (suc i) o l =
       let p = getD (s .parents) i 0 in
-      let x = placed p i a refl in
+      let x = placed p i (omega arith) refl in
       let some = x .base-some in
       let below : base 2 (gapsUnder s p) ≤ getD (gapsUnder s p) (rank s p i) 0 =
       omega (arith, base-fits 2 (omega arith) (gapsUnder s p) some .1, smallest-within (gapsUnder s p) (rank s p i) (x .place)) in
@@ -271,9 +302,6 @@ module _ (s : Site) (h : Timed s) where
 
   -- So G is at most the sum that 13 judges.
   pub bound-within : (n : ℕ) → getD (s .entries) n 0 ≤ s .links → delayBound s n ≤ along (s .gaps) (routeOf s n)
-  unfolding delayBound routeOf ofLink
-  bound-within n a = along-rises _ _ _ (λ m e. let w = route-within (s .parents) m (getD (s .entries) n 0) e in each m (w .0) (omega (arith, w .1)))
-    where
-      each : (m : ℕ) → 1 ≤ m → m ≤ s .links → ofLink (s .periods) m ≤ ofLink (s .gaps) m
-      each zero o l = absurd (omega arith)
-      each (suc i) o l = period-within i (omega arith) .1
+  unfolding delayBound routeOf
+  bound-within n a = along-rises _ _ _ (λ m e.
+      let w = route-within (s .parents) m (getD (s .entries) n 0) e in period-within m (w .0) (omega (arith, w .1)) .1)

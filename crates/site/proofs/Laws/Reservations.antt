@@ -237,17 +237,12 @@ module _ (f g : ℕ → ℕ) where
       go (inl e) ih = let w : n ≡ k = omega arith in rw (w, sum-ext k (λ i m. h i (λ z. omega arith))) (omega arith)
       go (inr m) ih = rw (h k (λ z. omega arith)) (omega (arith, ih (omega arith)))
 
--- A site with other fields at flow number n: the other flows keep what they kept, and are late or not as they were.
+-- A site with other fields at flow number n: the other flows keep what they kept.
 module _ (s : Site) (n state entry rate deadline : ℕ) where
   width-other : (m k : ℕ) → (k ≡ n → ⊥) → widthOn (withFields s n state entry rate deadline) m k ≡ widthOn s m k
   unfolding widthOn live routeOf gapsJudged
   width-other m k h =
       rw (getD-set-other (s .states) n k state 0 h, getD-set-other (s .entries) n k entry 0 h, getD-set-other (s .rates) n k rate 0 h)
-
-  late-other : (k : ℕ) → (k ≡ n → ⊥) → late (withFields s n state entry rate deadline) k ≡ late s k
-  unfolding late live routeOf gapsJudged
-  late-other k h =
-      rw (getD-set-other (s .states) n k state 0 h, getD-set-other (s .entries) n k entry 0 h, getD-set-other (s .deadlines) n k deadline 0 h)
 
   live-here : n < length (s .states) → live (withFields s n state entry rate deadline) n ≡ eqb state 1
   unfolding live
@@ -273,25 +268,7 @@ module _ (s : Site) (f : Flow) (few : f .number < 64) (states-long : length (s .
       here = width-live (withFlow s f) m (f .number) (live-here s (f .number) 1 (f .entry) (f .rate) (f .deadline) (omega arith))
           ∙ rw (getD-set-same (s .entries) (f .number) (f .entry) 0 (omega arith), getD-set-same (s .rates) (f .number) (f .rate) 0 (omega arith))
 
-  pub late-with : length (s .deadlines) ≡ 64
-      → late (withFlow s f) (f .number) ≡ ltb (f .deadline) (along (gapsJudged s) (route (s .parents) (f .entry)))
-  unfolding withFlow late routeOf gapsJudged
-  late-with deadlines-long =
-      rw (
-        live-here s (f .number) 1 (f .entry) (f .rate) (f .deadline) (omega arith),
-        getD-set-same (s .entries) (f .number) (f .entry) 0 (omega arith),
-        getD-set-same (s .deadlines) (f .number) (f .deadline) 0 (omega arith),
-      )
-
-pub late-with-other : (s : Site) (f : Flow) (k : ℕ) → (k ≡ f .number → ⊥) → late (withFlow s f) k ≡ late s k
-unfolding withFlow
-late-with-other s f k h = late-other s (f .number) 1 (f .entry) (f .rate) (f .deadline) k h
-
 -- A flow less.
-pub late-without-other : (s : Site) (n k : ℕ) → (k ≡ n → ⊥) → late (withoutFlow s n) k ≡ late s k
-unfolding withoutFlow
-late-without-other s n k h = late-other s n 0 0 0 0 k h
-
 module _ (s : Site) (n : ℕ) (few : n < 64) (states-long : length (s .states) ≡ 64) where
   -- The load of each link falls by what the flow kept of it.
   pub load-taken : (m : ℕ) → load (withoutFlow s n) m + widthOn s m n ≡ load s m
@@ -303,7 +280,3 @@ module _ (s : Site) (n : ℕ) (few : n < 64) (states-long : length (s .states) �
 
   pub load-without : (m : ℕ) → load (withoutFlow s n) m ≤ load s m
   load-without m = omega (arith, load-taken m)
-
-  pub late-without : late (withoutFlow s n) n ≡ false
-  unfolding withoutFlow late
-  late-without = rw (live-here s n 0 0 0 0 (omega arith))

@@ -81,9 +81,6 @@ module _ (p : List ℕ) where
       go true e = omega (arith, e)
       go false e = refl
 
-  pub depth-fuel : (f g n : ℕ) → n ≤ f → n ≤ g → depthIn f p n ≡ depthIn g p n
-  depth-fuel f g n a b = depth-climb f n ∙ ap (λ (r : List ℕ). length r) (climb-fuel f g n a b) ∙ sym (depth-climb g n)
-
   -- A route is the node and its parent's route, and nothing where there is no way up.
   pub route-up : (n : ℕ) → up p n < n → route p n ≡ n ∷ route p (up p n)
   unfolding route climb
