@@ -38,7 +38,7 @@ use Rattle.site.proofs.Laws.Tree.{Leads, route-leads, route-falls}
 use Rattle.site.proofs.Laws.Judge as judge
 use Rattle.site.proofs.Laws.Judge.{Served, Carried, Punctual}
 use Rattle.plan.specs.Read.{decode, judgeForm, readOf}
-use Rattle.plan.specs.Write.{planBytes, written, writtenIf}
+use Rattle.plan.specs.Write.{planBytes, written, siteFault, writtenIf}
 use Rattle.plan.specs.Check.{flowOf, passesOf}
 use Rattle.plan.proofs.Laws.Words.{Bytes, FlowGood, Sound}
 use Rattle.plan.proofs.Laws.Readings.{decode-refused, decode-first}
@@ -81,7 +81,7 @@ written-read s e some = let w = passes-parts s .0 e in (plan-small s (w .0), rea
 -- The operation writes these bytes, at most 763, and leaves the rest of the slice.
 pub plan-written : (s : Site) (out : List ℕ) → passesOf s ≡ true → 1 ≤ s .links → length (planBytes s) ≤ length out
     → writtenIf s (planBytes s) out ≡ (wrote (length (planBytes s)), planBytes s ++ drop (length (planBytes s)) out)
-unfolding writtenIf written
+unfolding siteFault writtenIf written
 plan-written s out e some room = simp (e, ne-eqb (s .links) 0 (omega arith), le-ltb _ _ room)
 
 pub plan-short : (s : Site) → passesOf s ≡ true → length (planBytes s) ≤ 763

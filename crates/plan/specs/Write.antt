@@ -1,6 +1,6 @@
 -- What the writers put into a borrowed slice.
 use Prim.Native.Nat.{ℕ, zero, suc, _+_}
-use mathlib.Core.Bool.{not, cond}
+use mathlib.Core.Bool.{cond}
 use mathlib.Core.List.{List, [], _∷_, _++_}
 use lib.Dec.{eqb, ltb}
 use lib.ListN.{length, getD, drop}
@@ -49,6 +49,10 @@ scheduleBytes links offsets periods = joined (linkBytes offsets periods) links 0
 unfoldable pub written : List ℕ → List ℕ → Outcome × List ℕ
 written bytes out = cond (ltb (length out) (length bytes)) (refused 1 0, out) (accepted (length bytes), bytes ++ drop (length bytes) out)
 
--- 14, then 9, then the writing itself.
+-- 01, the checks of a site handed to a writer: the first of 14 and 9 that it fails, 0 where it fails neither.
+unfoldable pub siteFault : Site → ℕ
+siteFault s = cond (passesOf s) (cond (eqb (s .links) 0) 9 0) 14
+
+-- Those checks, then the writing itself.
 unfoldable pub writtenIf : Site → List ℕ → List ℕ → Outcome × List ℕ
-writtenIf s bytes out = cond (not (passesOf s)) (refused 14 0, out) (cond (eqb (s .links) 0) (refused 9 0, out) (written bytes out))
+writtenIf s bytes out = cond (eqb (siteFault s) 0) (written bytes out) (refused (siteFault s) 0, out)

@@ -6,7 +6,8 @@ ghost use mathlib.Core.Path.{_≡_};
 ghost use Prim.Native.Nat.{_+_, _*_, _/_, _%_, _≤_, _<_};
 ghost use lib.ListN.{length};
 ghost use lib.Seq.{sets};
-ghost use Rattle.plan.specs.Write.{writing, nodeBytes, flowBytes, flowIfLive, linkBytes, joined, planBytes, scheduleBytes, written, writtenIf};
+ghost use Rattle.plan.specs.Write.{writing, nodeBytes, flowBytes, flowIfLive, linkBytes, joined, planBytes, scheduleBytes};
+ghost use Rattle.plan.specs.Write.{written, siteFault, writtenIf};
 
 fn low(v: u16) -> u8
     ensures { λ r. ⌜ r ≡ v % 256 ⌝ }
@@ -159,28 +160,38 @@ fn put_schedule(links: u8, offsets: [u16; 63], periods: [u16; 63], out: &mut [u8
     Written::Length(6 * n + 1)
 }
 
+// 14 and 9 for a site handed to a writer, 0 where it fails neither.
+fn site_fault(site: Site) -> u8
+    ensures { λ r. ⌜ r ≡ siteFault site ⌝ }
+{
+    if !passes(site) {
+        return 14;
+    }
+    if site.links == 0 {
+        return 9;
+    }
+    0
+}
+
 // The plan bytes of a site.
 pub fn write_plan(site: Site, out: &mut [u8]) -> Written
     ensures { λ r. ⌜ (writing r, now (out .exit)) ≡ writtenIf site (planBytes site) (now (out .entry)) ⌝ }
 {
-    if !passes(site) {
-        return Written::Refused(14, 0);
-    }
-    if site.links == 0 {
-        return Written::Refused(9, 0);
+    let fault = site_fault(site);
+    if fault != 0 {
+        return Written::Refused(fault, 0);
     }
     put_plan(site, out)
 }
 
 // The schedule bytes of a site.
 pub fn write_schedule(site: Site, out: &mut [u8]) -> Written
-    ensures { λ r. ⌜ (writing r, now (out .exit)) ≡ writtenIf site (scheduleBytes (site .links) (site .offsets) (site .periods)) (now (out .entry)) ⌝ }
+    ensures { λ r. ⌜ (writing r, now (out .exit))
+        ≡ writtenIf site (scheduleBytes (site .links) (site .offsets) (site .periods)) (now (out .entry)) ⌝ }
 {
-    if !passes(site) {
-        return Written::Refused(14, 0);
-    }
-    if site.links == 0 {
-        return Written::Refused(9, 0);
+    let fault = site_fault(site);
+    if fault != 0 {
+        return Written::Refused(fault, 0);
     }
     let offsets = site.offsets;
     let periods = site.periods;

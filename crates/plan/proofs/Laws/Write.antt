@@ -3,9 +3,10 @@ use Prim.Native.Nat.{ℕ, zero, suc, _+_, _-_, _*_, _≤_, _<_}
 use mathlib.Core.Path.{_≡_, refl, sym, _∙_, ap}
 use mathlib.Core.Bool.{Bool, true, false, not, cond}
 use mathlib.Core.List.{List, [], _∷_, _++_}
+use lib.Dec.{eqb}
 use lib.ListN.{length, getD, set, drop, length-append, drop-of-length-le}
 use lib.Seq.{sets, length-sets, sets-eq, drop-cons}
-use borrow.Author.Tests.{lt-ltb, le-ltb, ne-eqb}
+use borrow.Author.Tests.{lt-ltb, le-ltb, eq-eqb, ne-eqb, not-true, not-false}
 use native.Mathlib.Nat.{zero-add}
 use native.Mathlib.Numerals.{add-one}
 use native.Mathlib.Omega.{arith}
@@ -14,8 +15,9 @@ use Rattle.site.specs.declared.Site.{Site}
 use Rattle.site.specs.Sites.{live}
 use Rattle.plan.specs.Bytes.{bytesOf}
 use Rattle.plan.specs.Check.{passesOf}
-use Rattle.plan.specs.Write.{nodeBytes, flowBytes, linkBytes, joined, flowIfLive, planBytes, scheduleBytes, written, writtenIf}
+use Rattle.plan.specs.Write.{nodeBytes, flowBytes, linkBytes, joined, flowIfLive, planBytes, scheduleBytes, written, siteFault, writtenIf}
 use Rattle.plan.proofs.Laws.Lists.{joined-next}
+use Rattle.plan.proofs.Laws.Check.{passes-few}
 
 sets-append : (d : List ℕ) (at : ℕ) (xs ys : List ℕ) → sets d at (xs ++ ys) ≡ sets (sets d at xs) (at + length xs) ys
 sets-append d at [] ys = let e : at + 0 ≡ at = omega arith in rw e
@@ -182,16 +184,35 @@ module _ (offsets periods : List ℕ) (n : ℕ) where
   unfolding scheduleBytes
   schedule-stored out a p = rw (sets-append out 0 (joined (linkBytes offsets periods) n 0) (255 ∷ []), zero-add, links-size, ← p)
 
--- The answers of the two operations: 14, 9, and the writing itself.
-module _ (s : Site) (bytes out : List ℕ) (t : Bool) (passes : t ≡ passesOf s) where
-  pub written-ill : not t ≡ true → (refused 14 0, out) ≡ writtenIf s bytes out
-  unfolding writtenIf
-  written-ill e = rw (← passes, e)
+-- The checks of a site handed to a writer.
+module _ (s : Site) (t : Bool) (passes : t ≡ passesOf s) where
+  pub fault-ill : not t ≡ true → 14 ≡ siteFault s
+  unfolding siteFault
+  fault-ill e = rw (← passes, not-true t e)
 
-  pub written-empty : not t ≡ false → s .links ≡ 0 → (refused 9 0, out) ≡ writtenIf s bytes out
-  unfolding writtenIf
-  written-empty e z = rw (← passes, e, z)
+  pub fault-bare : not t ≡ false → s .links ≡ 0 → 9 ≡ siteFault s
+  unfolding siteFault
+  fault-bare e z = rw (← passes, not-false t e, z)
 
-  pub written-well : (a : Outcome × List ℕ) → not t ≡ false → (s .links ≡ 0 → ⊥) → a ≡ written bytes out → a ≡ writtenIf s bytes out
+  pub fault-neither : not t ≡ false → (s .links ≡ 0 → ⊥) → 0 ≡ siteFault s
+  unfolding siteFault
+  fault-neither e n = rw (← passes, not-false t e, ne-eqb _ _ n)
+
+-- A site that fails neither has 63 links at most.
+pub fault-few : (s : Site) → siteFault s ≡ 0 → s .links ≤ 63
+unfolding siteFault
+fault-few s e = go (passesOf s) refl e
+  where
+    go : (t : Bool) → passesOf s ≡ t → _≡_ {A = ℕ} (cond t (cond (eqb (s .links) 0) 9 0) 14) 0 → s .links ≤ 63
+    go true p q = passes-few s p
+    go false p q = absurd (omega arith)
+
+-- The answers of the two operations.
+module _ (s : Site) (bytes out : List ℕ) (f : ℕ) (is : f ≡ siteFault s) where
+  pub written-faulty : (f ≡ 0 → ⊥) → (refused f 0, out) ≡ writtenIf s bytes out
   unfolding writtenIf
-  written-well a e z q = rw (← passes, e, ne-eqb _ _ z) q
+  written-faulty n = rw (← is, ne-eqb _ _ n)
+
+  pub written-well : (a : Outcome × List ℕ) → f ≡ 0 → a ≡ written bytes out → a ≡ writtenIf s bytes out
+  unfolding writtenIf
+  written-well a z q = rw (← is, eq-eqb _ _ z) q
