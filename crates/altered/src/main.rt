@@ -1,26 +1,9 @@
 // Check 14 and the writers, on the site of plan P from standard input with an entry changed, and on slices that are too short.
-use plan::Written;
 use site::Site;
 
 fn print_byte(byte: u8) {
     io::write_all(1, b" ");
     io::print_decimal(1, byte as u64);
-}
-
-fn print_written(name: &[u8], written: Written) {
-    io::write_all(1, name);
-    match written {
-        Written::Length(n) => {
-            io::write_all(1, b" ");
-            io::print_decimal(1, n as u64);
-        }
-        Written::Refused(number, place) => {
-            io::write_all(1, b" refused ");
-            io::print_decimal(1, number as u64);
-            io::write_all(1, b" ");
-            io::print_decimal(1, place as u64);
-        }
-    }
 }
 
 fn print_bytes(bytes: &[u8]) {
@@ -41,9 +24,9 @@ fn show(name: &[u8], site: Site, out: &mut [u8]) {
         io::write_all(1, b": does not pass");
     }
     let plan_written = plan::write_plan(site, out);
-    print_written(b", plan", plan_written);
+    report::print_written(b", plan", plan_written);
     let schedule_written = plan::write_schedule(site, out);
-    print_written(b", schedule", schedule_written);
+    report::print_written(b", schedule", schedule_written);
     print_bytes(out);
 }
 

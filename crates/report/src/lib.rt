@@ -1,11 +1,26 @@
-// What `slotplan` prints of a plan.
+// What programs print of plans: `slotplan` all of it, others a part.
+use plan::Written;
 use site::Site;
 use site::Verdict;
 ghost use Prim.Native.Nat.{_<_};
 
-fn print_field(name: &[u8], value: u64) {
+pub fn print_field(name: &[u8], value: u64) {
     io::write_all(1, name);
     io::print_decimal(1, value);
+}
+
+// A writer's answer: the number of bytes, or the refusal.
+pub fn print_written(name: &[u8], written: Written) {
+    io::write_all(1, name);
+    match written {
+        Written::Length(n) => print_field(b" ", n as u64),
+        Written::Refused(number, place) => print_refusal(b" refused ", number, place),
+    }
+}
+
+pub fn print_refusal(name: &[u8], number: u8, place: usize) {
+    print_field(name, number as u64);
+    print_field(b" ", place as u64);
 }
 
 fn print_slots(base: u16, offset: u16, period: u16) {
@@ -82,8 +97,7 @@ pub fn print_plan(bytes: &[u8]) {
     match verdict {
         Verdict::Accepted => print_accepted(read.site),
         Verdict::Refused(number, place) => {
-            print_field(b"refused ", number as u64);
-            print_field(b" ", place as u64);
+            print_refusal(b"refused ", number, place);
             io::write_all(1, b"\n");
         }
     }

@@ -1,27 +1,10 @@
 // Reads plans from standard input, each on a line in hexadecimal, and prints for each what it is read to and how it is written again.
 // A line that begins with `#` is printed as it stands.
-use plan::Written;
 use site::Site;
 use site::Verdict;
 ghost use Prim.Native.Nat.{_≤_, _<_};
 ghost use mathlib.Core.Path.{_≡_};
 ghost use lib.ListN.{length};
-
-fn print_field(name: &[u8], value: u64) {
-    io::write_all(1, name);
-    io::print_decimal(1, value);
-}
-
-fn print_written(name: &[u8], written: Written) {
-    io::write_all(1, name);
-    match written {
-        Written::Length(n) => print_field(b" ", n as u64),
-        Written::Refused(number, place) => {
-            print_field(b" refused ", number as u64);
-            print_field(b" ", place as u64);
-        }
-    }
-}
 
 fn equal(a: &[u8], b: &[u8]) -> bool {
     let n = a.len();
@@ -41,7 +24,7 @@ fn equal(a: &[u8], b: &[u8]) -> bool {
 // Writes the site into a slice of just the plan's length and compares.
 fn print_again(bytes: &[u8], site: Site, out: &mut [u8]) {
     let plan_written = plan::write_plan(site, out);
-    print_written(b" plan", plan_written);
+    report::print_written(b" plan", plan_written);
     if equal(bytes, out) {
         io::write_all(1, b" equal");
     }
@@ -57,13 +40,13 @@ fn space() -> [u8; 2048]
 fn print_accepted(bytes: &[u8], site: Site) {
     let mut out = space();
     let n = bytes.len();
-    print_field(b"accepted links ", site.links as u64);
+    report::print_field(b"accepted links ", site.links as u64);
     if n <= 2048 {
         print_again(bytes, site, &mut out[..n]);
     }
     let mut slots = [0u8; 379];
     let schedule_written = plan::write_schedule(site, &mut slots);
-    print_written(b" schedule", schedule_written);
+    report::print_written(b" schedule", schedule_written);
 }
 
 fn print_plan(bytes: &[u8]) {
@@ -72,8 +55,7 @@ fn print_plan(bytes: &[u8]) {
     match verdict {
         Verdict::Accepted => print_accepted(bytes, read.site),
         Verdict::Refused(number, place) => {
-            print_field(b"refused ", number as u64);
-            print_field(b" ", place as u64);
+            report::print_refusal(b"refused ", number, place);
         }
     }
     io::write_all(1, b"\n");
