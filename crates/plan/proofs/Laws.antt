@@ -40,11 +40,11 @@ use Rattle.site.proofs.Laws.Judge.{Served, Carried, Punctual}
 use Rattle.plan.specs.Read.{decode, judgeForm, readOf}
 use Rattle.plan.specs.Write.{planBytes, written, siteFault, writtenIf}
 use Rattle.plan.specs.Check.{flowOf, passesOf}
-use Rattle.plan.proofs.Laws.Words.{Bytes, FlowGood, Sound}
+use Rattle.plan.proofs.Laws.Words.{Bytes, FlowGood, InForm, Sound}
 use Rattle.plan.proofs.Laws.Readings.{decode-refused, decode-first}
 use Rattle.plan.proofs.Laws.Write.{plan-size, flows-few}
 use Rattle.plan.proofs.Laws.Small.{plan-small}
-use Rattle.plan.proofs.Laws.Acceptance.{InForm, judged-when, read-form, read-plan, plan-scheduled, judge-emptied}
+use Rattle.plan.proofs.Laws.Acceptance.{judged-when, read-form, read-plan, plan-scheduled, judge-emptied}
 use Rattle.plan.proofs.Laws.Passing.{passes-parts, judged-passes}
 use Rattle.plan.proofs.Laws.Empty.{empty-passes, linkless-empty}
 use Rattle.plan.proofs.Laws.Flows.{live-few, live-fits, parent-below, route-short, without-none, without-with}

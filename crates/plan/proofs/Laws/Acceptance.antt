@@ -13,18 +13,11 @@ use Rattle.site.specs.Judge.{refusal, reserved, judgeOf}
 use Rattle.site.proofs.Laws.Judge.{Served, Carried, Punctual, judge-bare, judge-gives, judge-when}
 use Rattle.plan.specs.Read.{decode, judgeForm, readOf}
 use Rattle.plan.specs.Write.{nodeBytes, flowBytes, flowIfLive, planBytes}
-use Rattle.plan.proofs.Laws.Words.{Bytes, Formed, Unscheduled}
+use Rattle.plan.proofs.Laws.Words.{Bytes, Formed, InForm}
 use Rattle.plan.proofs.Laws.Forms.{formed-gapped}
 use Rattle.plan.proofs.Laws.Readings.{Emptied, refuses, emptied-refusal, emptied-accepted, emptied-both}
 use Rattle.plan.proofs.Laws.FromBytes.{decode-ends}
 use Rattle.plan.proofs.Laws.FromSites.{decode-plan}
-
--- The bytes are in form and limits: they are those of nodes and flows within 01's limits, at least one node among them.
-pub record InForm (bytes : List ℕ) (s : Site) : Type 0 where
-  pub formed : Formed s
-  pub bare : Unscheduled s
-  pub some : 1 ≤ s .links
-  pub are : bytes ≡ planBytes s
 
 pub accept-same : {s t : Site} → s ≡ t → _≡_ {A = Ruling × Site} (accepted, s) (accepted, t)
 accept-same e = ap (λ (u : Site). (accepted, u)) e

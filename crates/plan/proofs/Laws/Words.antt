@@ -11,6 +11,7 @@ use Rattle.site.specs.Schedule.{scheduled}
 use Rattle.site.proofs.Laws.Judge.{Served, Carried, Punctual}
 use Rattle.plan.specs.declared.Node.{Node}
 use Rattle.plan.specs.declared.Draft.{Draft}
+use Rattle.plan.specs.Write.{planBytes}
 use Rattle.plan.specs.Check.{nodeOf, flowOf}
 
 -- Every number of the list is one of 8 bits.
@@ -95,6 +96,13 @@ pub record Drafted (d : Draft) : Type 0 where
   pub room : d .next ≤ 64
   pub free : (n : ℕ) → d .next ≤ n → IdleAt (d .site) n
   pub bare : Unscheduled (d .site)
+
+-- The bytes are in form and limits: they are those of nodes and flows within 01's limits, at least one node among them.
+pub record InForm (bytes : List ℕ) (s : Site) : Type 0 where
+  pub formed : Formed s
+  pub bare : Unscheduled s
+  pub some : 1 ≤ s .links
+  pub are : bytes ≡ planBytes s
 
 -- A site that passes check 14.
 pub record Sound (s : Site) : Type 0 where
