@@ -13,7 +13,7 @@ pub record GapsOf (s : Site) (p n : ℕ) (gaps : List ℕ) : Type 0 where
   pub few : n ≤ 63
   pub are : take n gaps ≡ gapsUnder s p
 
--- The base that the slot rule finds for p's n children, and in the first n of 63 entries what it deals them.
+-- The base that the slot rule finds for the n children of p, and in the first n of 63 entries what it deals them.
 pub record DealtTo (s : Site) (p b n : ℕ) (os ps : List ℕ) : Type 0 where
   pub offsets-long : length os ≡ 63
   pub periods-long : length ps ≡ 63

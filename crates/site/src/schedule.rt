@@ -2,6 +2,8 @@
 use crate::Site;
 use pinwheel::Answer;
 ghost use mathlib.Core.Path.{_≡_};
+ghost use Prim.Native.Nat.{ℕ, _≤_};
+ghost use Rattle.site.specs.declared.Site.{Site};
 ghost use lib.ListN.{replicate};
 ghost use Rattle.pinwheel.specs.Deal.{outcome};
 ghost use Rattle.site.specs.Schedule.{baseOf, baseUnder};
@@ -55,28 +57,23 @@ fn base_in(answer: Answer) -> u16
     }
 }
 
-// The base that the slot rule finds for the children of one parent, 0 where it refuses them, and what it deals them, in the
-// first `count` places.
+// The base that the slot rule finds for n children, 0 where it refuses them, and what it deals them, in the first n places.
 struct Dealt {
     base: u16,
-    count: usize,
     offsets: [u16; 63],
     periods: [u16; 63],
 }
 
-fn deal_under(site: Site, parent: u8) -> Dealt
-    ensures { λ r. ⌜ DealtTo site parent (r .base) (r .count) (r .offsets) (r .periods) ⌝ }
+fn deal_to(n: usize, gaps: [u16; 63]) -> Dealt
+    requires { ⌜ n ≤ 63 ⌝ }
+    ensures { λ r. ⌜ ((s : Site) (p : ℕ) → GapsOf s p n gaps → DealtTo s p (r .base) n (r .offsets) (r .periods)) ⌝ }
 {
-    let wanted = gaps_under(site, parent);
-    let n = wanted.count;
-    let gaps = wanted.gaps;
     let mut offsets = zeros();
     let mut periods = zeros();
     let answer = pinwheel::deal(&gaps[..n], &mut offsets[..n], &mut periods[..n]);
     let base = base_in(answer);
     Dealt {
         base,
-        count: n,
         offsets,
         periods,
     }
@@ -86,7 +83,9 @@ fn deal_under(site: Site, parent: u8) -> Dealt
 pub fn base_under(site: Site, parent: u8) -> u16
     ensures { λ r. ⌜ r ≡ baseUnder site parent ⌝ }
 {
-    let dealt = deal_under(site, parent);
+    let wanted = gaps_under(site, parent);
+    let gaps = wanted.gaps;
+    let dealt = deal_to(wanted.count, gaps);
     dealt.base
 }
 
@@ -123,8 +122,11 @@ pub(crate) fn deal_all(site: Site) -> Slots
     let mut periods = zeros();
     let mut p: usize = 0;
     while p <= n {
-        let dealt = deal_under(site, p as u8);
-        if 0 < dealt.count {
+        let wanted = gaps_under(site, p as u8);
+        let count = wanted.count;
+        if 0 < count {
+            let gaps = wanted.gaps;
+            let dealt = deal_to(count, gaps);
             if dealt.base == 0 {
                 break;
             }

@@ -194,14 +194,15 @@ take-replicate zero m x l = refl
 take-replicate (suc n) zero x l = absurd (omega arith)
 take-replicate (suc n) (suc m) x l = ap (λ (xs : List ℕ). x ∷ xs) (take-replicate n m x (omega arith))
 
--- deal_under: the slot rule was lent the gaps and the first n of 63 zeros, twice.
-module _ (s : Site) (p n : ℕ) (gaps zs ys : List ℕ) (g : GapsOf s p n gaps) (z : zs ≡ replicate 63 0) (y : ys ≡ replicate 63 0) where
-  wanted : n ≡ length (gapsUnder s p)
-  wanted = sym (length-take-le n gaps (omega (arith, g .few, g .long))) ∙ ap length (g .are)
+-- The gaps gathered are as many as the children.
+pub gaps-number : (s : Site) (p n : ℕ) (gaps : List ℕ) → GapsOf s p n gaps → n ≡ length (gapsUnder s p)
+gaps-number s p n gaps g = sym (length-take-le n gaps (omega (arith, g .few, g .long))) ∙ ap length (g .are)
 
+-- deal_to: the slot rule was lent the gaps and the first n of 63 zeros, twice.
+module _ (s : Site) (p n : ℕ) (gaps zs ys : List ℕ) (g : GapsOf s p n gaps) (z : zs ≡ replicate 63 0) (y : ys ≡ replicate 63 0) where
   same : dealt 2 (take n gaps) (take n zs) (take n ys) ≡ dealtUnder s p
   unfolding dealtUnder
-  same = rw (z, y, take-replicate n 63 0 (g .few), g .are, ← wanted)
+  same = rw (z, y, take-replicate n 63 0 (g .few), g .are, ← gaps-number s p n gaps g)
 
   pub dealt-to : (answer : Outcome) (os ps : List ℕ) → (answer, os, ps) ≡ dealt 2 (take n gaps) (take n zs) (take n ys)
       → (b : ℕ) → b ≡ baseOf answer
@@ -212,7 +213,7 @@ module _ (s : Site) (p n : ℕ) (gaps zs ys : List ℕ) (g : GapsOf s p n gaps) 
       record {
         offsets-long = length-front zs os n o ∙ rw z;
         periods-long = length-front ys ps n k ∙ rw y;
-        number = wanted;
+        number = gaps-number s p n gaps g;
         few = g .few;
         base = q ∙ ap (λ (r : Outcome × List ℕ × List ℕ). baseOf (r .0)) told;
         offsets = take-at os (drop n zs) n (o ∙ front zs z) ∙ ap (λ (r : Outcome × List ℕ × List ℕ). r .1) told;
@@ -340,6 +341,19 @@ module _ (s : Site) where
       periods = λ m. entered-end _ _ p ps (d .periods) l (d .most);
     }
 
+    -- With no children under p.
+    pub dealing-none : p ≤ used (s .links) → (n : ℕ) (gaps : List ℕ) → GapsOf s p n gaps → n ≡ 0 → Dealing s (p + 1) os ps
+    unfolding crowded
+    dealing-none l n gaps g z =
+        let none : length (gapsUnder s p) ≡ 0 = omega (arith, gaps-number s p n gaps g) in
+        record {
+          most = omega arith;
+          links = d .links;
+          passed = below-more _ p (d .passed) (simp (eq-eqb _ _ none));
+          offsets = entered-skip _ _ p os (d .offsets) none;
+          periods = entered-skip _ _ p ps (d .periods) none;
+        }
+
     -- With what the slot rule deals under p.
     module _ (l : p ≤ used (s .links)) (b n : ℕ) (vs ws : List ℕ) (t : DealtTo s p b n vs ws) where
       pub dealing-crowded : 0 < n → b ≡ 0 → SlotsOf s p os ps
@@ -351,18 +365,6 @@ module _ (s : Site) where
                 (simp (ne-eqb _ _ m, eq-eqb _ _ (sym (t .base) ∙ z))) (d .passed));
             offsets = λ m. absurd (omega arith);
             periods = λ m. absurd (omega arith);
-          }
-
-      pub dealing-none : n ≡ 0 → Dealing s (p + 1) os ps
-      unfolding crowded
-      dealing-none z =
-          let none : length (gapsUnder s p) ≡ 0 = omega (arith, t .number) in
-          record {
-            most = omega arith;
-            links = d .links;
-            passed = below-more _ p (d .passed) (simp (eq-eqb _ _ none));
-            offsets = entered-skip _ _ p os (d .offsets) none;
-            periods = entered-skip _ _ p ps (d .periods) none;
           }
 
       fit : (b ≡ 0 → ⊥) → crowded s p ≡ false

@@ -25,11 +25,14 @@ zeros-requires-2 c κs = search needs
 loop-holds : tie.Need-loop-holds Inv-loop μ-loop
 loop-holds c = dealing-start _ _ _ (c .before .zeros .ensures) (c .zeros2 .ensures)
 
-cast-deal-under : tie.Need-cast-deal-under Inv-loop μ-loop
-cast-deal-under c = search needs
+cast-gaps-under : tie.Need-cast-gaps-under Inv-loop μ-loop
+cast-gaps-under c = search needs
 
-deal-under-requires : tie.Need-deal-under-requires Inv-loop μ-loop
-deal-under-requires c κs = search needs
+gaps-under-requires : tie.Need-gaps-under-requires Inv-loop μ-loop
+gaps-under-requires c κs = search needs
+
+deal-to-requires : tie.Need-deal-to-requires Inv-loop μ-loop
+deal-to-requires c κs = c .before .before .gaps-under .ensures .few
 
 cast-spread : tie.Need-cast-spread Inv-loop μ-loop
 cast-spread c = search needs
@@ -51,12 +54,13 @@ loop-less c = search needs
 
 loop-again : tie.Need-loop-again Inv-loop μ-loop
 loop-again c =
-    let turn = c .before .before in
-    let sofar = turn .before .before .loop .inv in
-    let dealt = turn .deal-under .ensures in
+    let gathered = c .before in
+    let sofar = gathered .before .before .loop .inv in
+    let wanted = gathered .gaps-under .ensures in
     ⊎-elim
-    (λ w. rw (w .7, w .8) (dealing-more _ _ _ _ sofar (search needs) _ _ _ _ dealt (w .2 .left) _ _ (w .5 .ensures) (w .6 .ensures)))
-    (λ w. rw (w .1, w .2) (dealing-none _ _ _ _ sofar (search needs) _ _ _ _ dealt (omega arith)))
+    (λ w. rw (w .9, w .10)
+    (dealing-more _ _ _ _ sofar (search needs) _ _ _ _ (w .2 .ensures _ _ wanted) (w .4 .left) _ _ (w .7 .ensures) (w .8 .ensures)))
+    (λ w. rw (w .1, w .2) (dealing-none _ _ _ _ sofar (search needs) _ _ wanted (omega arith)))
     (c .if1 .came)
 
 returns : tie.Need-returns Inv-loop μ-loop
@@ -64,8 +68,9 @@ returns c = dealing-end _ _ _ _ (c .before .loop .inv) (search needs)
 
 returns-2 : tie.Need-returns-2 Inv-loop μ-loop
 returns-2 c =
-    let turn = c .before .before .before .before in
-    dealing-crowded _ _ _ _ (turn .before .before .loop .inv) (search needs) _ _ _ _ (turn .deal-under .ensures) (search needs) (c .if2 .taken)
+    let gathered = c .before .before .before .before .before in
+    let dealt = c .before .before .deal-to .ensures _ _ (gathered .gaps-under .ensures) in
+    dealing-crowded _ _ _ _ (gathered .before .before .loop .inv) (search needs) _ _ _ _ dealt (search needs) (c .if2 .taken)
 
 pub deal-all-spec : {M : Type 1} → statement M
 deal-all-spec =
@@ -77,8 +82,9 @@ deal-all-spec =
     zeros-requires
     zeros-requires-2
     loop-holds
-    cast-deal-under
-    deal-under-requires
+    cast-gaps-under
+    gaps-under-requires
+    deal-to-requires
     cast-spread
     spread-requires
     cast-spread-2

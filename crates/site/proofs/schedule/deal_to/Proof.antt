@@ -1,13 +1,10 @@
--- `deal_under` lends the slot rule the gaps of the children and as many zeros for each list; the rest of both arrays comes back as it was.
+-- `deal_to` lends the slot rule the gaps and as many zeros for each list; the rest of both arrays comes back as it was.
 use borrow.Author.Needs.{needs}
 use lib.ListN.{length-take}
 use native.Mathlib.Omega.{arith}
 use Rattle.site.proofs.Laws.Schedule.{dealt-to}
-use Rattle.site.proofs.schedule.deal_under.Statement.{statement}
-use Rattle.site.proofs.schedule.deal_under.Tie as tie
-
-gaps-under-requires : tie.Need-gaps-under-requires
-gaps-under-requires c κs = search needs
+use Rattle.site.proofs.schedule.deal_to.Statement.{statement}
+use Rattle.site.proofs.schedule.deal_to.Tie as tie
 
 zeros-requires : tie.Need-zeros-requires
 zeros-requires c κs = search needs
@@ -43,15 +40,13 @@ returns : tie.Need-returns
 returns c =
     let called = c .before .before .before in
     let zeros = called .before .before .before .before in
-    let wanted = zeros .before .before .before .gaps-under .ensures in
-    dealt-to _ _ _ _ _ _ wanted (zeros .before .zeros .ensures) (zeros .zeros2 .ensures) _ _ _ (called .deal .ensures) _ (c .base-in .ensures)
-    (called .deal .kept .1 .0) (called .deal .kept .1 .1 .0)
+    λ s p wanted. dealt-to s p _ _ _ _ wanted (zeros .before .zeros .ensures) (zeros .zeros2 .ensures) _ _ _ (called .deal .ensures) _
+    (c .base-in .ensures) (called .deal .kept .1 .0) (called .deal .kept .1 .1 .0)
 
-pub deal-under-spec : {M : Type 1} → statement M
-deal-under-spec =
+pub deal-to-spec : {M : Type 1} → statement M
+deal-to-spec =
     tie.close
     (tie.spec
-    gaps-under-requires
     zeros-requires
     zeros-requires-2
     array-share-prefix-gaps
