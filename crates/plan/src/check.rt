@@ -11,6 +11,7 @@ ghost use Prim.Native.Nat.{_<_};
 ghost use Rattle.pinwheel.specs.Search.{any};
 ghost use Rattle.plan.specs.Check.{illNode, illFlow, passesOf};
 
+// The entries at index i are those of no node within its limits or, past the last link, not all 0.
 fn ill_node(site: Site, i: usize) -> bool
     requires { ⌜ i < 63 ⌝ }
     ensures { λ r. ⌜ r ≡ illNode site i ⌝ }
@@ -33,6 +34,7 @@ fn ill_node(site: Site, i: usize) -> bool
     node.gap != 0
 }
 
+// The entries of number n are neither those of a live flow within its limits nor all 0.
 fn ill_flow(site: Site, n: usize) -> bool
     requires { ⌜ n < 64 ⌝ }
     ensures { λ r. ⌜ r ≡ illFlow site n ⌝ }

@@ -65,6 +65,7 @@ pub(crate) fn flow_limits(links: u8, next: u8, flow: Flow) -> u8
     0
 }
 
+// 4 and 7 for a NODE, then 5, 6 and 8.
 fn node_fault(draft: Draft, node: Node) -> u8
     ensures { λ r. ⌜ r ≡ nodeFault draft node ⌝ }
 {
@@ -181,6 +182,7 @@ fn end(size: usize, at: usize, site: Site) -> Judged
     }
 }
 
+// The nodes and flows that the bytes have, or the refusal of their form.
 fn decoded(bytes: &[u8]) -> Judged
     ensures { λ r. ⌜ (ruling (r .verdict), r .site) ≡ decode (now (bytes .entry)) ⌝ }
 {

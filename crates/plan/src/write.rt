@@ -21,6 +21,7 @@ fn high(v: u16) -> u8
     (v / 256 % 256) as u8
 }
 
+// The commands of six bytes: NODE, FLOW and LINK.
 fn node_command(site: Site, i: usize) -> [u8; 6]
     requires { ⌜ i < 63 ⌝ }
     ensures { λ r. ⌜ r ≡ nodeBytes site i ⌝ }

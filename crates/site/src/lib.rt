@@ -26,6 +26,7 @@ pub struct Site {
     pub deadlines: [u16; 64],
 }
 
+// The operands of a FLOW.
 pub struct Flow {
     pub number: u8,
     pub entry: u8,
@@ -39,6 +40,7 @@ pub enum Verdict {
     Refused(u8, usize),
 }
 
+// The verdict of a judgement or a reading, and the site that it gives.
 pub struct Judged {
     pub verdict: Verdict,
     pub site: Site,
@@ -78,6 +80,7 @@ pub fn with_flow(site: Site, flow: Flow) -> Site
     next
 }
 
+// 01: a refusal comes with the empty site.
 pub fn refusal(number: u8, place: usize) -> Judged
     ensures { λ r. ⌜ (ruling (r .verdict), r .site) ≡ Rattle.site.specs.Judge.refusal number place ⌝ }
 {

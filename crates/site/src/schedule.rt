@@ -48,6 +48,7 @@ fn gaps_under(site: Site, parent: u8) -> Wanted
     Wanted { count, gaps }
 }
 
+// The base of an answer, 0 of a refusal.
 fn base_in(answer: Answer) -> u16
     ensures { λ r. ⌜ r ≡ baseOf (outcome answer) ⌝ }
 {
@@ -64,6 +65,7 @@ struct Dealt {
     periods: [u16; 63],
 }
 
+// Asks the slot rule for n children with these gaps.
 fn deal_to(n: usize, gaps: [u16; 63]) -> Dealt
     requires { ⌜ n ≤ 63 ⌝ }
     ensures { λ r. ⌜ ((s : Site) (p : ℕ) → GapsOf s p n gaps → DealtTo s p (r .base) n (r .offsets) (r .periods)) ⌝ }

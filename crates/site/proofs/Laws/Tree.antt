@@ -3,10 +3,10 @@ use Prim.Native.Nat.{ℕ, zero, suc, _+_, _-_, _≤_, _<_}
 use mathlib.Core.Path.{_≡_, refl, sym, _∙_, ap}
 use mathlib.Core.Bool.{Bool, true, false, cond, false≢true}
 use mathlib.Core.List.{List, [], _∷_}
-use mathlib.Core.Logic.{_⊎_, inl, inr, ⊎-elim}
+use mathlib.Core.Logic.{_⊎_, inl, inr, ⊎-elim, _↔_}
 use lib.Dec.{eqb, ltb}
 use lib.ListN.{length, getD, List·getD-eq-default}
-use borrow.Author.Tests.{lt-ltb, le-ltb, ltb-true, eqb-true}
+use borrow.Author.Tests.{lt-ltb, le-ltb, eq-eqb, ltb-true, eqb-true}
 use native.Mathlib.Omega.{arith}
 use Rattle.pinwheel.proofs.Laws.Search.{lt-or-le}
 use Rattle.site.specs.Sites.{ofLink}
@@ -143,6 +143,30 @@ module _ (p : List ℕ) where
           → (j : ℕ) → j + 1 < length (n ∷ route p (up p n)) → getD (n ∷ route p (up p n)) (j + 1) 0 < getD (n ∷ route p (up p n)) j 0
       go n l ih zero h = omega (arith, route-head (up p n))
       go n l ih (suc j) h = let e : suc j + 1 ≡ suc (j + 1) = omega arith in rw e (ih j (omega arith))
+
+-- A route has a link just when it stands at some place of it.
+has-found : (m : ℕ) (ms : List ℕ) → has m ms ≡ true → (j : ℕ) × (j < length ms) × (getD ms j 0 ≡ m)
+unfolding has
+has-found m [] e = absurd (false≢true e)
+has-found m (k ∷ ms) e = go (eqb k m) refl e (has-found m ms)
+  where
+    go : (t : Bool) → eqb k m ≡ t → cond t true (has m ms) ≡ true → (has m ms ≡ true → (j : ℕ) × (j < length ms) × (getD ms j 0 ≡ m))
+        → (j : ℕ) × (j < suc (length ms)) × (getD (k ∷ ms) j 0 ≡ m)
+    go true q e f = (0, omega arith, eqb-true k m q)
+    go false q e f = let w = f e in (suc (w .0), omega (arith, w .1), w .2)
+
+has-met : (m : ℕ) (ms : List ℕ) (j : ℕ) → j < length ms → getD ms j 0 ≡ m → has m ms ≡ true
+unfolding has
+has-met m [] j l e = absurd (omega arith)
+has-met m (k ∷ ms) zero l e = simp (eq-eqb k m e)
+has-met m (k ∷ ms) (suc j) l e = rw (has-met m ms j (omega arith) e) (either (eqb k m))
+  where
+    either : (t : Bool) → cond t true true ≡ true
+    either true = refl
+    either false = refl
+
+pub has-when : (m : ℕ) (ms : List ℕ) → (has m ms ≡ true) ↔ ((j : ℕ) × (j < length ms) × (getD ms j 0 ≡ m))
+has-when m ms = (has-found m ms, λ w. has-met m ms (w .0) (w .1) (w .2))
 
 -- A route that reaches the root: each number is a node's, and the next is its parent's.
 pub data Leads (p : List ℕ) : ℕ → List ℕ → Type 0 where
