@@ -1,6 +1,6 @@
 -- 01, Plan bytes, and the checks of a reading in their order: what any bytes read to.
 use Prim.Native.Nat.{ℕ, zero, suc, _+_}
-use mathlib.Core.Bool.{Bool, cond, _||_}
+use mathlib.Core.Bool.{Bool, not, cond, _||_}
 use mathlib.Core.List.{List}
 use lib.Dec.{eqb, ltb, leb}
 use lib.ListN.{length, getD, set}
@@ -43,24 +43,25 @@ nodeLimits parents k n = cond (badNode n) 5 (cond (ltb k (n .parent)) 6 (cond (l
 unfoldable pub flowLimits : ℕ → ℕ → Flow → ℕ
 flowLimits links next f = cond (badFlow f) 5 (cond (eqb (f .entry) 0 || (ltb links (f .entry) || ltb (f .number) next)) 6 0)
 
--- 01, the order of a command's checks, from 4 on for a NODE. A FLOW has been read just when `next` is above 0.
+-- The checks of a NODE from 4 on: 4, 7, then 5, 6, 8. A FLOW has been read just when `next` is above 0.
 unfoldable pub nodeFault : Draft → Node → ℕ
 nodeFault d n = cond (ltb 0 (d .next)) 4 (cond (leb 63 (d .site .links)) 7 (nodeLimits (d .site .parents) (d .site .links) n))
 
+-- Those of a FLOW: 5, 6.
 unfoldable pub flowFault : Draft → Flow → ℕ
 flowFault d f = flowLimits (d .site .links) (d .next) f
 
--- 2, and then the checks of a NODE or FLOW at index `at`. Both have six bytes.
-unfoldable pub nodeCommand : List ℕ → ℕ → Draft → ℕ
-nodeCommand bytes at d = cond (ltb (length bytes) (at + 6)) 2 (nodeFault d (nodeAt bytes at))
+-- The tag of a NODE or a FLOW.
+unfoldable pub known : ℕ → Bool
+known tag = eqb tag 1 || eqb tag 2
 
-unfoldable pub flowCommand : List ℕ → ℕ → Draft → ℕ
-flowCommand bytes at d = cond (ltb (length bytes) (at + 6)) 2 (flowFault d (flowAt bytes at))
-
--- The number of the first check that the command at index `at` fails, 0 where it fails none. 3: it is neither NODE nor FLOW.
+-- 01, the order of a command's checks: the number of the first that the one at index `at` fails, 0 where it fails none. 3 where it is neither NODE
+-- nor FLOW, 2 where not all of its six bytes are there, and then those of a NODE or of a FLOW.
 unfoldable pub fault : List ℕ → ℕ → Draft → ℕ
 fault bytes at d =
-    cond (eqb (getD bytes at 0) 1) (nodeCommand bytes at d) (cond (eqb (getD bytes at 0) 2) (flowCommand bytes at d) 3)
+    cond (not (known (getD bytes at 0))) 3
+    (cond (ltb (length bytes) (at + 6)) 2
+    (cond (eqb (getD bytes at 0) 1) (nodeFault d (nodeAt bytes at)) (flowFault d (flowAt bytes at))))
 
 -- 01: nodes are numbered as they come. What is read so far, with one node more.
 unfoldable pub withNode : Site → Node → Site

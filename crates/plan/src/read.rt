@@ -10,7 +10,7 @@ ghost use Prim.Native.Nat.{_+_, _*_, _<_, _≤_};
 ghost use lib.ListN.{length};
 ghost use Rattle.site.specs.Ruling.{ruling};
 ghost use Rattle.plan.specs.Read.{nodeAt, flowAt, nodeLimits, flowLimits, nodeFault, nodeAdded, flowAdded};
-ghost use Rattle.plan.specs.Read.{fault, after, endOf, decode, readOf};
+ghost use Rattle.plan.specs.Read.{known, fault, after, endOf, decode, readOf};
 
 fn word(low: u8, high: u8) -> u16
     ensures { λ r. ⌜ r ≡ low + 256 * high ⌝ }
@@ -131,27 +131,35 @@ fn flow_at(bytes: &[u8], at: usize) -> Flow
     }
 }
 
+// The tag of a NODE or a FLOW.
+fn is_known(tag: u8) -> bool
+    ensures { λ r. ⌜ r ≡ known tag ⌝ }
+{
+    if tag == 1 {
+        return true;
+    }
+    tag == 2
+}
+
 // The first check that the command at index `at` fails, 0 where it fails none. It is not END.
 fn fault_at(bytes: &[u8], at: usize, draft: Draft) -> u8
     requires { ⌜ at < length (now bytes) ⌝ }
     ensures { λ r. ⌜ r ≡ fault (now (bytes .entry)) at draft ⌝ }
 {
     let tag = bytes[at];
+    let known = is_known(tag);
     let left = bytes.len() - at;
+    if !known {
+        return 3;
+    }
+    if left < 6 {
+        return 2;
+    }
     if tag == 1 {
-        if left < 6 {
-            return 2;
-        }
         return node_fault(draft, node_at(bytes, at));
     }
-    if tag == 2 {
-        if left < 6 {
-            return 2;
-        }
-        let site = draft.site;
-        return flow_limits(site.links, draft.next, flow_at(bytes, at));
-    }
-    3
+    let site = draft.site;
+    flow_limits(site.links, draft.next, flow_at(bytes, at))
 }
 
 // What has been read with the command at index `at`, which fails no check.

@@ -1,7 +1,7 @@
 -- One law for each way that a check of a command or of END ends.
 use Prim.Native.Nat.{ℕ, _+_, _*_, _≤_, _<_}
 use mathlib.Core.Path.{_≡_, _∙_}
-use mathlib.Core.Bool.{false}
+use mathlib.Core.Bool.{Bool, true, false, not}
 use mathlib.Core.List.{List}
 use lib.Dec.{eqb, ltb, leb}
 use lib.ListN.{length, getD}
@@ -15,8 +15,8 @@ use Rattle.site.specs.Judge.{refusal}
 use Rattle.plan.specs.declared.Node.{Node}
 use Rattle.plan.specs.declared.Draft.{Draft}
 use Rattle.plan.specs.Bytes.{numberAt}
-use Rattle.plan.specs.Read.{nodeAt, flowAt, badNode, badFlow, nodeLimits, flowLimits, nodeFault, flowFault, nodeCommand, flowCommand}
-use Rattle.plan.specs.Read.{fault, endOf}
+use Rattle.plan.specs.Read.{nodeAt, flowAt, badNode, badFlow, nodeLimits, flowLimits, nodeFault, flowFault}
+use Rattle.plan.specs.Read.{known, fault, endOf}
 use Rattle.plan.proofs.Laws.Forms.{flow-good, node-passed}
 
 -- The limits of a NODE, check by check.
@@ -145,38 +145,24 @@ module _ (bytes : List ℕ) (at : ℕ) where
       rw (number-one bytes (at + 1), number-one bytes (at + 2), number-one bytes (at + 3), number-two bytes (at + 4) (at + 5) (omega arith))
       (λ i. record { number = en i; entry = ee i; rate = er i; deadline = et i })
 
--- Its checks in turn, and what is read once it has passed them.
-module _ (bytes : List ℕ) (at : ℕ) (d : Draft) where
-  pub node-cut : length bytes < at + 6 → 2 ≡ nodeCommand bytes at d
-  unfolding nodeCommand
-  node-cut l = simp (lt-ltb _ _ l)
-
-  pub flow-cut : length bytes < at + 6 → 2 ≡ flowCommand bytes at d
-  unfolding flowCommand
-  flow-cut l = simp (lt-ltb _ _ l)
-
-  pub node-whole : at + 6 ≤ length bytes → (n : Node) → n ≡ nodeAt bytes at → (r : ℕ) → r ≡ nodeFault d n → r ≡ nodeCommand bytes at d
-  unfolding nodeCommand
-  node-whole l n e r q = q ∙ simp (e, le-ltb _ _ l)
-
-  pub flow-whole : at + 6 ≤ length bytes → (f : Flow) → f ≡ flowAt bytes at → (r : ℕ) → r ≡ flowFault d f → r ≡ flowCommand bytes at d
-  unfolding flowCommand
-  flow-whole l f e r q = q ∙ simp (e, le-ltb _ _ l)
-
-  -- A NODE.
-  pub fault-node : getD bytes at 0 ≡ 1 → (r : ℕ) → r ≡ nodeCommand bytes at d → r ≡ fault bytes at d
+-- Its checks in turn.
+module _ (bytes : List ℕ) (at : ℕ) (d : Draft) (t : Bool) (is : t ≡ known (getD bytes at 0)) where
+  pub fault-unknown : not t ≡ true → 3 ≡ fault bytes at d
   unfolding fault
-  fault-node t r e = e ∙ simp (eq-eqb _ _ t)
+  fault-unknown e = rw (← is, e)
 
-  -- A FLOW.
-  pub fault-flow : getD bytes at 0 ≡ 2 → (r : ℕ) → r ≡ flowCommand bytes at d → r ≡ fault bytes at d
+  pub fault-cut : not t ≡ false → length bytes < at + 6 → 2 ≡ fault bytes at d
   unfolding fault
-  fault-flow t r e = let n : getD bytes at 0 ≡ 1 → ⊥ = omega arith in e ∙ simp (ne-eqb _ _ n, eq-eqb _ _ t)
+  fault-cut e l = rw (← is, e, lt-ltb (length bytes) (at + 6) l)
 
-  -- Neither.
-  pub fault-other : (getD bytes at 0 ≡ 1 → ⊥) → (getD bytes at 0 ≡ 2 → ⊥) → 3 ≡ fault bytes at d
-  unfolding fault
-  fault-other n m = simp (ne-eqb _ _ n, ne-eqb _ _ m)
+  module _ (e : not t ≡ false) (l : at + 6 ≤ length bytes) (r : ℕ) where
+    pub fault-node : getD bytes at 0 ≡ 1 → (n : Node) → n ≡ nodeAt bytes at → r ≡ nodeFault d n → r ≡ fault bytes at d
+    unfolding fault
+    fault-node one n q f = rw (← is, e, le-ltb (length bytes) (at + 6) l, eq-eqb _ _ one, ← q) f
+
+    pub fault-flow : (getD bytes at 0 ≡ 1 → ⊥) → (f : Flow) → f ≡ flowAt bytes at → r ≡ flowFault d f → r ≡ fault bytes at d
+    unfolding fault
+    fault-flow other f q g = rw (← is, e, le-ltb (length bytes) (at + 6) l, ne-eqb _ _ other, ← q) g
 
 -- END at index `at`.
 module _ (size at : ℕ) (s : Site) where

@@ -1,20 +1,19 @@
 -- The reading of commands without its count of steps: one law for each thing that can be met at an index.
 use Prim.Native.Nat.{ℕ, zero, suc, _+_, _<_, _≤_}
 use mathlib.Core.Path.{_≡_, refl, _∙_, ap}
-use mathlib.Core.Bool.{false, cond}
+use mathlib.Core.Bool.{Bool, true, false, not, cond, _||_}
 use mathlib.Core.List.{List}
 use mathlib.Core.Logic.{_⊎_, inl, inr}
 use lib.Dec.{eqb, ltb}
 use lib.ListN.{length, getD}
-use borrow.Author.Tests.{ltb-false, lt-ltb, le-ltb, eq-eqb, ne-eqb}
-use native.Mathlib.Decide.{ℕ-discrete}
+use borrow.Author.Tests.{lt-ltb, le-ltb, eq-eqb, ne-eqb, ltb-false, eqb-true, not-false}
 use native.Mathlib.Omega.{arith}
 use Rattle.site.specs.declared.Site.{Site}
 use Rattle.site.specs.Ruling.{Ruling, accepted, refused}
 use Rattle.site.specs.Judge.{refusal, judgeOf}
 use Rattle.plan.specs.declared.Draft.{Draft}
-use Rattle.plan.specs.Read.{nodeAt, flowAt, nodeFault, flowFault, nodeCommand, flowCommand, nodeAdded, flowAdded}
-use Rattle.plan.specs.Read.{fault, after, endOf, decodeFrom, decode, blank, judgeForm, readOf}
+use Rattle.plan.specs.Read.{nodeAt, flowAt, nodeFault, flowFault, nodeAdded, flowAdded}
+use Rattle.plan.specs.Read.{known, fault, after, endOf, decodeFrom, decode, blank, judgeForm, readOf}
 use Rattle.plan.proofs.Laws.Tests.{passed}
 
 -- As many steps as there are bytes are enough from every index on.
@@ -69,21 +68,18 @@ module _ (bytes : List ℕ) where
         → (at + 6 ≤ length bytes)
         × (((getD bytes at 0 ≡ 1) × (nodeFault d (nodeAt bytes at) ≡ 0) × (after bytes at d ≡ nodeAdded d (nodeAt bytes at)))
         ⊎ ((getD bytes at 0 ≡ 2) × (flowFault d (flowAt bytes at) ≡ 0) × (after bytes at d ≡ flowAdded d (flowAt bytes at))))
-    unfolding fault nodeCommand flowCommand after
+    unfolding known fault after
     fault-none e =
-        elim (ℕ-discrete (getD bytes at 0) 1) [
-          | yes q ↦
-              let w = passed (ltb (length bytes) (at + 6)) 2 (nodeFault d (nodeAt bytes at)) (omega arith) (rw (eq-eqb _ _ q) at e) in
-              (ltb-false _ _ (w .0), inl (q, w .1, simp (eq-eqb _ _ q)))
-          | no n ↦
-              elim (ℕ-discrete (getD bytes at 0) 2) [
-                | yes q ↦
-                    let w = passed (ltb (length bytes) (at + 6)) 2 (flowFault d (flowAt bytes at)) (omega arith)
-                    (rw (ne-eqb _ _ n, eq-eqb _ _ q) at e) in
-                    (ltb-false _ _ (w .0), inr (q, w .1, simp (ne-eqb _ _ n)))
-                | no m ↦ let z : _≡_ {A = ℕ} 3 0 = rw (ne-eqb _ _ n, ne-eqb _ _ m) at e in absurd (omega arith)
-              ]
-        ]
+        let tag = passed (not (known (getD bytes at 0))) 3 _ (omega arith) e in
+        let whole = passed (ltb (length bytes) (at + 6)) 2 _ (omega arith) (tag .1) in
+        (ltb-false _ _ (whole .0), kind (eqb (getD bytes at 0) 1) refl (not-false _ (tag .0)) (whole .1))
+      where
+        kind : (t : Bool) → eqb (getD bytes at 0) 1 ≡ t → t || eqb (getD bytes at 0) 2 ≡ true
+            → _≡_ {A = ℕ} (cond t (nodeFault d (nodeAt bytes at)) (flowFault d (flowAt bytes at))) 0
+            → ((getD bytes at 0 ≡ 1) × (nodeFault d (nodeAt bytes at) ≡ 0) × (after bytes at d ≡ nodeAdded d (nodeAt bytes at)))
+            ⊎ ((getD bytes at 0 ≡ 2) × (flowFault d (flowAt bytes at) ≡ 0) × (after bytes at d ≡ flowAdded d (flowAt bytes at)))
+        kind true q k f = inl (eqb-true _ _ q, f, simp q)
+        kind false q k f = inr (eqb-true _ _ k, f, simp q)
 
     pub node-none : fault bytes at d ≡ 0 → getD bytes at 0 ≡ 1
         → (nodeFault d (nodeAt bytes at) ≡ 0) × (after bytes at d ≡ nodeAdded d (nodeAt bytes at))
@@ -95,14 +91,14 @@ module _ (bytes : List ℕ) where
 
     pub node-passes : at + 6 ≤ length bytes → getD bytes at 0 ≡ 1 → nodeFault d (nodeAt bytes at) ≡ 0
         → decodeOn bytes at d ≡ decodeOn bytes (at + 6) (nodeAdded d (nodeAt bytes at))
-    unfolding fault nodeCommand after
+    unfolding known fault after
     node-passes h t e =
         let q = eq-eqb _ _ t in
         decode-go (omega arith) (omega arith) (simp (q, le-ltb _ _ h, e)) ∙ ap (λ (x : Draft). decodeOn bytes (at + 6) x) (simp q)
 
     pub flow-passes : at + 6 ≤ length bytes → getD bytes at 0 ≡ 2 → flowFault d (flowAt bytes at) ≡ 0
         → decodeOn bytes at d ≡ decodeOn bytes (at + 6) (flowAdded d (flowAt bytes at))
-    unfolding fault flowCommand after
+    unfolding known fault after
     flow-passes h t e =
         let n : eqb (getD bytes at 0) 1 ≡ false = ne-eqb (getD bytes at 0) 1 (omega arith) in
         decode-go (omega arith) (omega arith) (simp (n, eq-eqb _ _ t, le-ltb _ _ h, e)) ∙ ap (λ (x : Draft). decodeOn bytes (at + 6) x) (simp n)

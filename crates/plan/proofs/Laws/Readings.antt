@@ -17,7 +17,7 @@ use Rattle.site.specs.Sites.{emptySite, withFlow}
 use Rattle.site.specs.Judge.{refusal}
 use Rattle.plan.specs.declared.Node.{Node}
 use Rattle.plan.specs.declared.Draft.{Draft}
-use Rattle.plan.specs.Read.{nodeAt, flowAt, nodeFault, flowFault, nodeCommand, flowCommand}
+use Rattle.plan.specs.Read.{nodeAt, flowAt, nodeFault, flowFault}
 use Rattle.plan.specs.Read.{fault, withNode, nodeAdded, flowAdded, after, endOf, decodeFrom, blank, decode}
 use Rattle.plan.proofs.Laws.Commands.{node-room, flow-number, node-at, flow-at}
 use Rattle.plan.proofs.Laws.Decode.{fault-none}
@@ -122,7 +122,7 @@ module _ (xs ys : List ℕ) (w : Alike xs ys) (at : ℕ) (room : at + 6 ≤ 1024
   tag-alike = w .same at (omega arith)
 
   fault-alike : (d : Draft) → fault xs at d ≡ fault ys at d
-  unfolding fault nodeCommand flowCommand
+  unfolding fault
   fault-alike d =
       let l : at + 6 ≤ length xs = omega (arith, w .left) in
       let m : at + 6 ≤ length ys = omega (arith, w .right) in
