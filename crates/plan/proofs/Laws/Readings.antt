@@ -95,7 +95,7 @@ cond-same true p q = p refl
 cond-same false p q = q refl
 
 -- Bytes that agree in the first 1,024 places.
-pub record Alike (xs ys : List ℕ) : Type 0 where
+pub record Agreeing (xs ys : List ℕ) : Type 0 where
   pub left : 1024 ≤ length xs
   pub right : 1024 ≤ length ys
   pub same : (i : ℕ) → i < 1024 → getD xs i 0 ≡ getD ys i 0
@@ -106,7 +106,7 @@ stepFrom steps bytes at d =
     cond (eqb (getD bytes at 0) 255) (endOf (length bytes) at (d .site))
     (cond (eqb (fault bytes at d) 0) (decodeFrom steps bytes (at + 6) (after bytes at d)) (refusal (fault bytes at d) at))
 
-module _ (xs ys : List ℕ) (w : Alike xs ys) (at : ℕ) (room : at + 6 ≤ 1024) where
+module _ (xs ys : List ℕ) (w : Agreeing xs ys) (at : ℕ) (room : at + 6 ≤ 1024) where
   node-alike : nodeAt xs at ≡ nodeAt ys at
   node-alike = sym (node-at xs at _ _ _ refl refl refl)
       ∙ node-at ys at _ _ _ (w .same (at + 1) (omega arith))
@@ -148,7 +148,7 @@ module _ (xs ys : List ℕ) (w : Alike xs ys) (at : ℕ) (room : at + 6 ≤ 1024
       (λ _. cond-same (eqb (fault ys at d) 0) (λ e. next (eqb-true _ _ e)) (λ _. refl)))
 
 -- The steps never run out before the answer: a command begins at index 762 at most.
-alike-from : (xs ys : List ℕ) → Alike xs ys → (f g at : ℕ) (d : Draft) → Within at d → 1024 ≤ at + f → 1024 ≤ at + g
+alike-from : (xs ys : List ℕ) → Agreeing xs ys → (f g at : ℕ) (d : Draft) → Within at d → 1024 ≤ at + f → 1024 ≤ at + g
     → decodeFrom f xs at d ≡ decodeFrom g ys at d
 unfolding decodeFrom
 alike-from xs ys w zero g at d h p q = absurd (omega (arith, h .place, h .few, h .low))
@@ -161,7 +161,7 @@ alike-from xs ys w (suc f) (suc g) at d h p q =
     (λ e. alike-from xs ys w f g (at + 6) (after ys at d) (within-more ys at d h e) (omega arith) (omega arith)))
 
 -- So they read to the same form.
-pub decode-alike : (xs ys : List ℕ) → Alike xs ys → decode xs ≡ decode ys
+pub decode-alike : (xs ys : List ℕ) → Agreeing xs ys → decode xs ≡ decode ys
 unfolding decode
 decode-alike xs ys w =
     alike-from xs ys w (length xs) (length ys) 0 blank within-start (omega (arith, w .left)) (omega (arith, w .right))
