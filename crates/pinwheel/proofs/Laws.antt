@@ -1,5 +1,5 @@
 -- What the definitions of the slot rule mean, in the order of 01's rules and for every factor from 2 up. The modules named here hold the lemmas.
-pub mod Words
+pub mod Outcomes
 pub mod Search
 pub mod Lists
 pub mod Periods
@@ -20,13 +20,15 @@ use native.Mathlib.Nat.{mul-le-mul-left, mod-eq-of-lt, mod-mod-of-dvd, dvd-of-mo
 use native.Mathlib.Omega.{arith}
 use Rattle.pinwheel.specs.Search.{last, total, largest, smallest}
 use Rattle.pinwheel.specs.Rule.{exponent, period, sum, limit, fits, base, periodsOf, earlier, taken, freeOffset, sends, offsetsOf}
-use Rattle.pinwheel.specs.Deal.{Outcome, accepted, refused, dealt}
-use Rattle.pinwheel.proofs.Laws.Words.{Good, LargestFit, NoneFits, SendsIn, Once, Earlier, Meets, Free, SmallestFree, Taker}
+use Rattle.pinwheel.specs.Outcome.{Outcome, accepted, refused}
+use Rattle.pinwheel.specs.Deal.{dealt}
+use Rattle.pinwheel.specs.Words.{Good, LargestFit, NoneFits, SendsIn, Once, Earlier, Meets, Free, SmallestFree}
+use Rattle.pinwheel.proofs.Laws.Outcomes.{refused-not}
 use Rattle.pinwheel.proofs.Laws.Search.{lt-or-le, first-passes, first-before, first-is}
 use Rattle.pinwheel.proofs.Laws.Periods.{powers, exponent-most, period-within, period-least}
 use Rattle.pinwheel.proofs.Laws.Bases.{smallest-met, base-fits, base-period, base-none, limit-common, sum-shares, tried-hit}
 use Rattle.pinwheel.proofs.Laws.Counting.{class-once}
-use Rattle.pinwheel.proofs.Laws.Offsets.{earlier-why, earlier-below, earlier-same, earlier-le, taken-why, taken-by, Settled, offsets-settled, settled-unique}
+use Rattle.pinwheel.proofs.Laws.Offsets.{Taker, earlier-why, earlier-below, earlier-same, earlier-le, taken-why, taken-by, Settled, offsets-settled, settled-unique}
 use Rattle.pinwheel.proofs.Laws.Checks.{passed-good, refuse-crowded, accept}
 use Rattle.pinwheel.proofs.Laws.Room.{base-harmonic, base-roomy, periods-long, period-at}
 
@@ -50,27 +52,24 @@ module _ (f : ℕ) (two : 2 ≤ f) where
   outcome-base : (gaps offsets periods : List ℕ) → Good gaps offsets periods → 1 ≤ base f gaps
       → dealt f gaps offsets periods .0 ≡ accepted (base f gaps)
   outcome-base gaps offsets periods g h =
-      sym (ap (λ (r : Outcome × List ℕ × List ℕ). r .0) (accept f gaps offsets periods g h _ _ _ refl refl refl))
+      sym (ap (λ (r : Outcome ℕ × List ℕ × List ℕ). r .0) (accept f gaps offsets periods g h _ _ _ refl refl refl))
 
   outcome-none : (gaps offsets periods : List ℕ) → Good gaps offsets periods → base f gaps ≡ 0 → dealt f gaps offsets periods .0 ≡ refused 11 0
-  outcome-none gaps offsets periods g z = sym (ap (λ (r : Outcome × List ℕ × List ℕ). r .0) (refuse-crowded f gaps offsets periods g z))
+  outcome-none gaps offsets periods g z = sym (ap (λ (r : Outcome ℕ × List ℕ × List ℕ). r .0) (refuse-crowded f gaps offsets periods g z))
 
   -- Rules 1 and 4. Accepted with the base b just when the lists are as 1 and 5 ask and b is the largest fitting base.
   pub accepted-when : (gaps offsets periods : List ℕ) (b : ℕ)
       → (dealt f gaps offsets periods .0 ≡ accepted b) ↔ (Good gaps offsets periods × LargestFit f gaps b)
   accepted-when gaps offsets periods b = (λ e. (good e, fit e (lt-or-le 0 (base f gaps))), back)
     where
-      apart : (number place : ℕ) → dealt f gaps offsets periods .0 ≡ accepted b → dealt f gaps offsets periods .0 ≡ refused number place → ⊥
-      apart number place e q = let z : _≡_ {A = ℕ} 0 1 = cc in omega arith
-
       good : dealt f gaps offsets periods .0 ≡ accepted b → Good gaps offsets periods
-      good e = passed-good f gaps offsets periods (λ place. apart 1 place e) (λ place. apart 5 place e)
+      good e = passed-good f gaps offsets periods (λ place q. refused-not _ q e) (λ place q. refused-not _ q e)
 
       fit : dealt f gaps offsets periods .0 ≡ accepted b → (0 < base f gaps) ⊎ (base f gaps ≤ 0) → LargestFit f gaps b
       fit e (inl l) =
           let q : b ≡ base f gaps = cc (outcome-base gaps offsets periods (good e) l) in
           rw q (base-fits f two gaps l)
-      fit e (inr m) = absurd (apart 11 0 e (outcome-none gaps offsets periods (good e) (omega arith)))
+      fit e (inr m) = absurd (refused-not _ (outcome-none gaps offsets periods (good e) (omega arith)) e)
 
       back : Good gaps offsets periods × LargestFit f gaps b → dealt f gaps offsets periods .0 ≡ accepted b
       back (g, (one, within, fits-b, none)) =
@@ -91,7 +90,7 @@ module _ (f : ℕ) (two : 2 ≤ f) where
       good e = passed-good f gaps offsets periods (λ place. other 1 place (omega arith) e) (λ place. other 5 place (omega arith) e)
 
       none : dealt f gaps offsets periods .0 ≡ refused 11 0 → (0 < base f gaps) ⊎ (base f gaps ≤ 0) → NoneFits f gaps
-      none e (inl l) = absurd (let z : _≡_ {A = ℕ} 0 1 = cc (outcome-base gaps offsets periods (good e) l) in omega arith)
+      none e (inl l) = absurd (refused-not _ e (outcome-base gaps offsets periods (good e) l))
       none e (inr m) = base-none f two gaps .0 (omega arith)
 
 -- The tests say what the words say.

@@ -6,16 +6,12 @@ use lib.Dec.{eqb, ltb}
 use lib.ListN.{length, getD}
 use Rattle.pinwheel.specs.declared.Answer.{Answer}
 use Rattle.pinwheel.specs.declared.Answer.the-variants.{Base, Refused}
+use Rattle.pinwheel.specs.Outcome.{Outcome, accepted, refused}
 use Rattle.pinwheel.specs.Search.{first}
 use Rattle.pinwheel.specs.Rule.{base, periodsOf, offsetsOf}
 
--- An outcome in the terms of 01's table of refusals: the base, or the number and the place.
-pub data Outcome : Type 0 where
-  accepted : ℕ → Outcome
-  refused : ℕ → ℕ → Outcome
-
--- What each case of the answer says in those terms.
-abbrev pub outcome : Answer → Outcome
+-- What each case of the answer says in 01's terms: the base, or the number and the place of a refusal.
+abbrev pub outcome : Answer → Outcome ℕ
 outcome (Base b) = accepted b
 outcome (Refused number place) = refused number place
 
@@ -29,7 +25,7 @@ firstBad gaps = first (badGap gaps) (length gaps) 0
 
 -- The outcome, the offsets and the periods. The first check that fails refuses, and then both lists are as they were:
 -- 1 for a list that is not as long as the gaps, 5 for a count outside 1 to 63, 5 for the first gap outside its limits, 11 where no base fits.
-unfoldable pub dealt : ℕ → List ℕ → List ℕ → List ℕ → Outcome × List ℕ × List ℕ
+unfoldable pub dealt : ℕ → List ℕ → List ℕ → List ℕ → Outcome ℕ × List ℕ × List ℕ
 dealt f gaps offsets periods =
     cond (not (eqb (length offsets) (length gaps))) (refused 1 0, offsets, periods)
     (cond (not (eqb (length periods) (length gaps))) (refused 1 0, offsets, periods)

@@ -1,4 +1,1 @@
-pub mod Bytes
-pub mod Read
-pub mod Write
-pub mod Check
+pub mod Words

@@ -6,7 +6,8 @@ use lib.Dec.{eqb, ltb, leb}
 use lib.ListN.{length, getD, replicate}
 use Rattle.pinwheel.specs.Search.{first}
 use Rattle.pinwheel.specs.Rule.{sends}
-use Rattle.pinwheel.specs.Deal.{Outcome, accepted, refused, dealt}
+use Rattle.pinwheel.specs.Outcome.{Outcome, accepted, refused}
+use Rattle.pinwheel.specs.Deal.{dealt}
 use Rattle.site.specs.declared.Site.{Site}
 use Rattle.site.specs.Sites.{ofLink, withSchedule}
 
@@ -33,11 +34,11 @@ unfoldable pub rank : Site → ℕ → ℕ → ℕ
 rank s p i = length (gapsFrom (s .parents) (s .gaps) p i 0)
 
 -- What the slot rule deals to p's children: outcome, offsets, periods.
-unfoldable pub dealtUnder : Site → ℕ → Outcome × List ℕ × List ℕ
+unfoldable pub dealtUnder : Site → ℕ → Outcome ℕ × List ℕ × List ℕ
 dealtUnder s p = dealt 2 (gapsUnder s p) (replicate (length (gapsUnder s p)) 0) (replicate (length (gapsUnder s p)) 0)
 
 -- The base that the slot rule finds for p's children, 0 where it refuses them.
-unfoldable pub baseOf : Outcome → ℕ
+unfoldable pub baseOf : Outcome ℕ → ℕ
 baseOf (accepted b) = b
 baseOf (refused number place) = 0
 

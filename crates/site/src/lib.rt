@@ -8,8 +8,8 @@ pub use schedule::base_under;
 pub use tree::depth;
 ghost use mathlib.Core.Path.{_≡_};
 ghost use Rattle.site.specs.Sites.{emptySite, withFlow};
-ghost use Rattle.site.specs.Ruling.{ruling};
-ghost use Rattle.site.specs.Judge.{reserved, judgeOf};
+ghost use Rattle.pinwheel.specs.Outcome.{refused};
+ghost use Rattle.site.specs.Judge.{ruling, withSite, reserved, judgeOf};
 
 // One value for one plan: node n's entries are at index n - 1, a flow's at its number, and whatever is not in use is 0.
 // A flow's state is 0 for a number not in use and 1 for a live flow.
@@ -82,7 +82,7 @@ pub fn with_flow(site: Site, flow: Flow) -> Site
 
 // 01: a refusal comes with the empty site.
 pub fn refusal(number: u8, place: usize) -> Judged
-    ensures { λ r. ⌜ (ruling (r .verdict), r .site) ≡ Rattle.site.specs.Judge.refusal number place ⌝ }
+    ensures { λ r. ⌜ (ruling (r .verdict), r .site) ≡ withSite (refused number place) ⌝ }
 {
     Judged {
         verdict: Verdict::Refused(number, place),
@@ -92,9 +92,9 @@ pub fn refusal(number: u8, place: usize) -> Judged
 
 // 12 and 13 for a site that has its schedule.
 fn judge_reservations(site: Site) -> Judged
-    ensures { λ r. ⌜ (ruling (r .verdict), r .site) ≡ reserved site ⌝ }
+    ensures { λ r. ⌜ (ruling (r .verdict), r .site) ≡ withSite (reserved site) ⌝ }
 {
-    let links = schedule::used(site.links);
+    let links = schedule::link_count(site.links);
     let over = reservations::first_over(site);
     let late = reservations::first_late(site);
     if over < links {
@@ -111,11 +111,11 @@ fn judge_reservations(site: Site) -> Judged
 
 // The site with its schedule where 11, 12 and 13 let it pass. The offsets and periods handed in play no part.
 pub fn judge(site: Site) -> Judged
-    ensures { λ r. ⌜ (ruling (r .verdict), r .site) ≡ judgeOf site ⌝ }
+    ensures { λ r. ⌜ (ruling (r .verdict), r .site) ≡ withSite (judgeOf site) ⌝ }
 {
     let dealt = schedule::deal_all(site);
     let crowded = dealt.crowded;
-    if crowded <= schedule::used(site.links) {
+    if crowded <= schedule::link_count(site.links) {
         return refusal(11, crowded);
     }
     let offsets = dealt.offsets;

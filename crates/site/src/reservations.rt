@@ -1,6 +1,6 @@
 // What live flows keep on the links of their routes.
 use crate::Site;
-use crate::schedule::used;
+use crate::schedule::link_count;
 use crate::tree::parent_of;
 use crate::tree::value_of;
 ghost use mathlib.Core.Path.{_≡_};
@@ -71,7 +71,7 @@ fn loads_of(site: Site) -> [u32; 63]
 pub(crate) fn first_over(site: Site) -> usize
     ensures { λ r. ⌜ r ≡ firstOver site ⌝ }
 {
-    let links = used(site.links);
+    let links = link_count(site.links);
     let loads = loads_of(site);
     let mut i = 0;
     while i < links {

@@ -6,12 +6,12 @@ ghost use Prim.Native.Nat.{ℕ, _≤_};
 ghost use Rattle.site.specs.declared.Site.{Site};
 ghost use lib.ListN.{replicate};
 ghost use Rattle.pinwheel.specs.Deal.{outcome};
-ghost use Rattle.site.specs.Schedule.{baseOf, baseUnder};
+ghost use Rattle.site.specs.Schedule.{used, baseOf, baseUnder};
 ghost use Rattle.site.specs.Inner.{GapsOf, DealtTo, Spread, SlotsOf};
 
 // How many links a site has, whatever its count says.
-pub(crate) fn used(links: u8) -> usize
-    ensures { λ r. ⌜ r ≡ Rattle.site.specs.Schedule.used links ⌝ }
+pub(crate) fn link_count(links: u8) -> usize
+    ensures { λ r. ⌜ r ≡ used links ⌝ }
 {
     if 63 < links {
         return 63;
@@ -34,7 +34,7 @@ struct Wanted {
 fn gaps_under(site: Site, parent: u8) -> Wanted
     ensures { λ r. ⌜ GapsOf site parent (r .count) (r .gaps) ⌝ }
 {
-    let n = used(site.links);
+    let n = link_count(site.links);
     let mut gaps = zeros();
     let mut count = 0;
     let mut i = 0;
@@ -95,7 +95,7 @@ pub fn base_under(site: Site, parent: u8) -> u16
 fn spread(site: Site, parent: u8, values: [u16; 63], list: [u16; 63]) -> [u16; 63]
     ensures { λ r. ⌜ Spread site parent values list r ⌝ }
 {
-    let n = used(site.links);
+    let n = link_count(site.links);
     let mut next = list;
     let mut k = 0;
     let mut i = 0;
@@ -119,7 +119,7 @@ pub(crate) struct Slots {
 pub(crate) fn deal_all(site: Site) -> Slots
     ensures { λ r. ⌜ SlotsOf site (r .crowded) (r .offsets) (r .periods) ⌝ }
 {
-    let n = used(site.links);
+    let n = link_count(site.links);
     let mut offsets = zeros();
     let mut periods = zeros();
     let mut p: usize = 0;

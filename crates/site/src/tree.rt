@@ -3,7 +3,7 @@ ghost use mathlib.Core.Path.{_≡_};
 ghost use Rattle.site.specs.Sites.{ofLink};
 ghost use Rattle.site.specs.Tree.{up, depthOf};
 
-// The parent of a node; the root, and a number that no node has, are their own.
+// The parent of a node; the root, and a number beyond the list, are their own.
 pub(crate) fn parent_of(parents: &[u8], node: u8) -> u8
     ensures { λ r. ⌜ r ≡ up (now (parents .entry)) node ⌝ }
 {
@@ -17,7 +17,7 @@ pub(crate) fn parent_of(parents: &[u8], node: u8) -> u8
     parents[i]
 }
 
-// The entry of a node's link; the root, and a number that no link has, have 0.
+// The entry of a node's link; the root, and a number beyond the list, have 0.
 pub(crate) fn value_of(values: &[u16], node: u8) -> u16
     ensures { λ r. ⌜ r ≡ ofLink (now (values .entry)) node ⌝ }
 {

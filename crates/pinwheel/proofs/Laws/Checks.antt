@@ -10,8 +10,9 @@ use borrow.Author.Tests.{lt-ltb, le-ltb, eq-eqb, ne-eqb, eqb-false, ltb-false}
 use native.Mathlib.Decide.{ℕ-discrete}
 use native.Mathlib.Omega.{arith}
 use Rattle.pinwheel.specs.Rule.{base, periodsOf, offsetsOf}
-use Rattle.pinwheel.specs.Deal.{Outcome, accepted, refused, badGap, firstBad, dealt}
-use Rattle.pinwheel.proofs.Laws.Words.{InLimits, Good}
+use Rattle.pinwheel.specs.Outcome.{Outcome, accepted, refused}
+use Rattle.pinwheel.specs.Deal.{badGap, firstBad, dealt}
+use Rattle.pinwheel.specs.Words.{InLimits, Good}
 use Rattle.pinwheel.proofs.Laws.Search.{lt-or-le, first-before, first-passes}
 
 -- A gap before the first bad one is within its limits, and the first bad one is not.
@@ -86,7 +87,7 @@ module _ (f : ℕ) (gaps offsets periods : List ℕ) where
     where
       told : (number place : ℕ) → (refused number place, offsets, periods) ≡ dealt f gaps offsets periods
           → dealt f gaps offsets periods .0 ≡ refused number place
-      told number place q = sym (ap (λ (r : Outcome × List ℕ × List ℕ). r .0) q)
+      told number place q = sym (ap (λ (r : Outcome ℕ × List ℕ × List ℕ). r .0) q)
 
       in-limits : length offsets ≡ length gaps → length periods ≡ length gaps → (length gaps ≡ 0 → ⊥) → length gaps ≤ 63
           → (firstBad gaps < length gaps) ⊎ (length gaps ≤ firstBad gaps) → Good gaps offsets periods

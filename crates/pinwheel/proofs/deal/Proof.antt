@@ -5,7 +5,7 @@ use Prim.Native.Nat.{_≤_}
 use mathlib.Core.Path.{_≡_, sym, _∙_, ap}
 use native.Mathlib.Omega.{arith}
 use Rattle.pinwheel.specs.Rule.{base, periodsOf, offsetsFor, offsetsOf}
-use Rattle.pinwheel.proofs.Laws.Words.{Good}
+use Rattle.pinwheel.specs.Words.{Good}
 use Rattle.pinwheel.proofs.Laws.Bases.{smallest-within, base-fits}
 use Rattle.pinwheel.proofs.Laws.Room.{periods-long, base-roomy}
 use Rattle.pinwheel.proofs.Laws.Checks.{gap-limits, refuse-offsets, refuse-periods, refuse-none, refuse-many, refuse-gap}

@@ -6,7 +6,7 @@ use mathlib.Core.Logic.{⊎-elim}
 use lib.ListN.{length}
 use borrow.Author.Tests.{eq-eqb, ne-eqb}
 use native.Mathlib.Omega.{arith}
-use Rattle.pinwheel.specs.Inner.{firstIn}
+use Rattle.pinwheel.specs.Search.{firstIn}
 use Rattle.pinwheel.specs.Deal.{badGap, firstBad}
 use Rattle.pinwheel.proofs.Laws.Search.{first-hit, first-miss, first-end}
 use Rattle.pinwheel.proofs.first_bad.Statement.{statement}

@@ -1,63 +1,159 @@
 -- A reading in its two steps: the form of the bytes, and then the judgement of what they say.
-use Prim.Native.Nat.{ℕ, _+_, _≤_}
-use mathlib.Core.Path.{_≡_, refl, _∙_, ap}
-use mathlib.Core.List.{List}
+use Prim.Native.Nat.{ℕ, suc, _+_, _≤_, _<_}
+use mathlib.Core.Path.{_≡_, refl, sym, _∙_, ap}
+use mathlib.Core.Bool.{Bool, true, false, cond}
+use mathlib.Core.List.{List, [], _∷_, _++_}
 use mathlib.Core.Logic.{_↔_}
-use lib.Dec.{ltb, leb}
+use lib.Dec.{eqb, ltb, leb}
+use lib.ListN.{length, getD, drop, replicate, length-append, drop-of-length-le}
+use lib.Seq.{drop-cons, take-at, getD-append-seam}
+use borrow.Author.Tests.{le-ltb, ne-eqb, eqb-true, eqb-false, ltb-true, ltb-false}
+use native.Mathlib.Omega.{arith}
+use Rattle.pinwheel.specs.Outcome.{Outcome, accepted, refused}
+use Rattle.pinwheel.proofs.Laws.Outcomes.{refused-not}
 use Rattle.site.specs.declared.Site.{Site}
-use Rattle.site.specs.Ruling.{Ruling, accepted, refused}
 use Rattle.site.specs.Sites.{live, withSchedule}
-use Rattle.site.specs.Schedule.{used, firstCrowded, scheduled}
-use Rattle.site.specs.Reservations.{firstOver, firstLate}
-use Rattle.site.specs.Judge.{refusal, reserved, judgeOf}
-use Rattle.site.proofs.Laws.Judge.{Served, Carried, Punctual, judge-bare, judge-gives, judge-when}
-use Rattle.plan.specs.Read.{decode, judgeForm, readOf}
-use Rattle.plan.specs.Write.{nodeBytes, flowBytes, flowIfLive, planBytes}
-use Rattle.plan.proofs.Laws.Words.{Bytes, Formed, InForm}
-use Rattle.plan.proofs.Laws.Forms.{formed-gapped}
-use Rattle.plan.proofs.Laws.Readings.{Emptied, refuses, emptied-refusal, emptied-accepted, emptied-both}
-use Rattle.plan.proofs.Laws.FromBytes.{decode-ends}
-use Rattle.plan.proofs.Laws.FromSites.{decode-plan}
+use Rattle.site.specs.Tree.{depthOf}
+use Rattle.site.specs.Schedule.{scheduled}
+use Rattle.site.specs.Judge.{judgeOf}
+use Rattle.site.proofs.Laws.{judge-gives, judge-numbers}
+use Rattle.site.proofs.Laws.Judge.{judge-bare}
+use Rattle.limits.specs.Limits.{badNode, badFlow, misplaced, nodeLimits, flowLimits}
+use Rattle.limits.specs.Words.{Formed}
+use Rattle.format.specs.Commands.{sizeOf}
+use Rattle.format.specs.Words.{Bytes}
+use Rattle.reader.specs.declared.Draft.{Draft}
+use Rattle.reader.specs.Read.{nodeAt, flowAt, nodeFault, flowFault, fault, endOf, decode, judgeForm, readOf}
+use Rattle.reader.proofs.Laws.Decode.{decode-out, decode-end, decode-stop}
+use Rattle.writer.specs.Write.{nodeBytes, flowBytes, flowIfLive, commandBytes, planBytes}
+use Rattle.plan.specs.Words.{InForm}
+use Rattle.plan.proofs.Laws.FromBytes.{Reached, Stop, out, end, fails, stops}
+use Rattle.plan.proofs.Laws.FromSites.{begun-read}
 
-pub accept-same : {s t : Site} → s ≡ t → _≡_ {A = Ruling × Site} (accepted, s) (accepted, t)
-accept-same e = ap (λ (u : Site). (accepted, u)) e
+abbrev zeros : List ℕ
+zeros = replicate 63 0
 
--- 11, 12 and 13 let nodes and flows in form pass just when they are as the words say.
-pub judged-when : (s : Site) → Formed s → (judgeOf s ≡ (accepted, scheduled s)) ↔ (Served s × Carried (scheduled s) × Punctual (scheduled s))
-judged-when s g = judge-when s (g .few) (formed-gapped s g)
+-- The three ways that END ends.
+pub data EndWay (size at : ℕ) (s : Site) : Type 0 where
+  bare : s .links ≡ 0 → endOf size at s ≡ refused 9 at → EndWay size at s
+  more : 1 ≤ s .links → at + 1 < size → endOf size at s ≡ refused 10 (at + 1) → EndWay size at s
+  last : 1 ≤ s .links → size ≤ at + 1 → endOf size at s ≡ accepted s → EndWay size at s
 
--- What is read has come through both steps.
-pub read-form : (bytes : List ℕ) → Bytes bytes → (t : Site) → readOf bytes ≡ (accepted, t)
-    → (s : Site) × InForm bytes s × (judgeOf s ≡ (accepted, scheduled s)) × (t ≡ scheduled s)
-unfolding readOf judgeForm
-read-form bytes small t e = go (decode bytes) refl e
+pub end-way : (size at : ℕ) (s : Site) → EndWay size at s
+unfolding endOf
+end-way size at s = go (eqb (s .links) 0) refl (ltb (at + 1) size) refl
   where
-    go : (r : Ruling × Site) → decode bytes ≡ r → judgeForm r ≡ (accepted, t)
-        → (s : Site) × InForm bytes s × (judgeOf s ≡ (accepted, scheduled s)) × (t ≡ scheduled s)
-    go (accepted, s) d q =
-        let w = decode-ends bytes s small d in
-        let own = judge-gives s t q in
-        (s, record { formed = w .1; bare = w .2; some = w .3; are = w .0 }, q ∙ accept-same own, own)
-    go (refused number place, s) d q = absurd (refuses number place s t q)
+    go : (a : Bool) → eqb (s .links) 0 ≡ a → (b : Bool) → ltb (at + 1) size ≡ b → EndWay size at s
+    go true p b q = bare (eqb-true _ _ p) (simp p)
+    go false p true q = let z : s .links ≡ 0 → ⊥ = eqb-false _ _ p in more (omega arith) (ltb-true _ _ q) (simp (p, q))
+    go false p false q = let z : s .links ≡ 0 → ⊥ = eqb-false _ _ p in last (omega arith) (ltb-false _ _ q) (simp (p, q))
 
--- The bytes of nodes and flows in form are read to what these are judged to.
+-- No check of a command has a number above 8.
+below : (t : Bool) (m n : ℕ) → m ≤ 8 → n ≤ 8 → cond t m n ≤ 8
+below true m n a b = a
+below false m n a b = b
+
+pub fault-most : (bytes : List ℕ) (at : ℕ) (d : Draft) → fault bytes at d ≤ 8
+unfolding fault nodeFault flowFault nodeLimits flowLimits
+fault-most bytes at d =
+    below (eqb (sizeOf (getD bytes at 0)) 0) _ _ (omega arith)
+    (below (ltb (length bytes) (at + sizeOf (getD bytes at 0))) _ _ (omega arith)
+    (below (eqb (getD bytes at 0) 1) _ _
+    (below (ltb 0 (d .next)) _ _ (omega arith)
+    (below (leb 63 (d .site .links)) _ _ (omega arith)
+    (below (badNode (nodeAt bytes at)) _ _ (omega arith)
+    (below (ltb (d .site .links) (nodeAt bytes at .parent)) _ _ (omega arith)
+    (below (ltb 8 (depthOf (d .site .parents) (nodeAt bytes at .parent) + 1)) _ _ (omega arith) (omega arith))))))
+    (below (badFlow (flowAt bytes at)) _ _ (omega arith)
+    (below (misplaced (d .site .links) (d .next) (flowAt bytes at)) _ _ (omega arith) (omega arith)))))
+
+module _ (bytes : List ℕ) (small : Bytes bytes) where
+  -- What the form of the bytes is accepted as is what they say.
+  pub decode-form : (s : Site) → decode bytes ≡ accepted s → InForm bytes s
+  unfolding planBytes
+  decode-form s e = go (stops bytes small)
+    where
+      ends : (m : ℕ) (d : Draft) → Reached bytes m d → m < length bytes → getD bytes m 0 ≡ 255 → EndWay (length bytes) m (d .site) → InForm bytes s
+      ends m d r l b (bare z q) = absurd (refused-not _ (r .here ∙ decode-end bytes m d l b ∙ q) e)
+      ends m d r l b (more o n q) = absurd (refused-not _ (r .here ∙ decode-end bytes m d l b ∙ q) e)
+      ends m d r l b (last o n q) =
+          let own : accepted (d .site) ≡ accepted s = sym (r .here ∙ decode-end bytes m d l b ∙ q) ∙ e in
+          let same : d .site ≡ s = cc in
+          let rest : drop m bytes ≡ 255 ∷ [] = rw (drop-cons bytes m 0 l, b, drop-of-length-le bytes {i = suc m} (omega arith)) in
+          rw (← same) (record { formed = r .drafted .formed; bare = r .drafted .bare; some = o; are = r .are ∙ ap (λ (l : List ℕ). commandBytes (d .site) ++ l) rest })
+
+      go : (m : ℕ) × (d : Draft) × Reached bytes m d × Stop bytes m d → InForm bytes s
+      go (m, d, r, out q) = absurd (refused-not _ (r .here ∙ decode-out bytes m d (omega arith)) e)
+      go (m, d, r, end l b) = ends m d r l b (end-way (length bytes) m (d .site))
+      go (m, d, r, fails l b f) = absurd (refused-not _ (r .here ∙ decode-stop bytes m d l b f) e)
+
+  -- What it is refused with has a number up to 10.
+  pub decode-numbers : (number place : ℕ) → decode bytes ≡ refused number place → number ≤ 10
+  decode-numbers number place e = go (stops bytes small)
+    where
+      ends : (m : ℕ) (d : Draft) → decode bytes ≡ endOf (length bytes) m (d .site) → EndWay (length bytes) m (d .site) → number ≤ 10
+      ends m d h (bare z q) = let n : number ≡ 9 = cc in omega arith
+      ends m d h (more o l q) = let n : number ≡ 10 = cc in omega arith
+      ends m d h (last o l q) = absurd (refused-not _ e (h ∙ q))
+
+      go : (m : ℕ) × (d : Draft) × Reached bytes m d × Stop bytes m d → number ≤ 10
+      go (m, d, r, out q) = let n : number ≡ 2 = cc (r .here ∙ decode-out bytes m d (omega arith)) in omega arith
+      go (m, d, r, end l b) = ends m d (r .here ∙ decode-end bytes m d l b) (end-way (length bytes) m (d .site))
+      go (m, d, r, fails l b f) =
+          let n : number ≡ fault bytes m d = cc (r .here ∙ decode-stop bytes m d l b f) in omega (arith, fault-most bytes m d)
+
+-- The bytes of nodes and flows in form are read to them.
+decode-plan : (s : Site) → Formed s → 1 ≤ s .links → decode (planBytes s) ≡ accepted (withSchedule s zeros zeros)
+unfolding planBytes endOf withSchedule
+decode-plan s g some =
+    let at = length (commandBytes s) in
+    let long : length (planBytes s) ≡ at + 1 = length-append (commandBytes s) (255 ∷ []) in
+    let n : s .links ≡ 0 → ⊥ = omega arith in
+    let w = begun-read (planBytes s) at s g (omega arith) (take-at (commandBytes s) (255 ∷ []) at refl) in
+    w .1 ∙ decode-end (planBytes s) at _ (omega arith) (getD-append-seam (commandBytes s) 255 [] 0)
+    ∙ simp (ne-eqb _ _ n, le-ltb (at + 1) (length (planBytes s)) (omega arith))
+
 pub read-plan : (s : Site) → Formed s → 1 ≤ s .links → readOf (planBytes s) ≡ judgeOf s
 unfolding readOf judgeForm
 read-plan s g some = rw (decode-plan s g some) (judge-bare s _ _)
 
 -- A writer of plan bytes does not look at the schedule.
 pub plan-scheduled : (s : Site) → planBytes (scheduled s) ≡ planBytes s
-unfolding planBytes nodeBytes flowIfLive flowBytes live scheduled withSchedule
+unfolding planBytes commandBytes nodeBytes flowIfLive flowBytes live scheduled withSchedule
 plan-scheduled s = refl
 
--- A refusal of the judgement comes with the empty site.
-reserved-emptied : (s : Site) → Emptied (reserved s)
-unfolding reserved
-reserved-emptied s =
-    emptied-both (ltb (firstOver s) (used (s .links))) (emptied-refusal 12 (firstOver s + 1))
-    (emptied-both (ltb (firstLate s) 64) (emptied-refusal 13 (firstLate s)) (emptied-accepted s))
+module _ (bytes : List ℕ) (small : Bytes bytes) where
+  -- What is read has come through both steps.
+  pub read-form : (t : Site) → readOf bytes ≡ accepted t → (s : Site) × InForm bytes s × (judgeOf s ≡ accepted (scheduled s)) × (t ≡ scheduled s)
+  unfolding readOf judgeForm
+  read-form t e = go (decode bytes) refl e
+    where
+      go : (r : Outcome Site) → decode bytes ≡ r → judgeForm r ≡ accepted t
+          → (s : Site) × InForm bytes s × (judgeOf s ≡ accepted (scheduled s)) × (t ≡ scheduled s)
+      go (accepted s) d q = let own = judge-gives s t q in (s, decode-form bytes small s d, q ∙ ap accepted own, own)
+      go (refused number place) d q = absurd (refused-not _ refl q)
 
-pub judge-emptied : (s : Site) → Emptied (judgeOf s)
-unfolding judgeOf
-judge-emptied s =
-    emptied-both (leb (firstCrowded s) (used (s .links))) (emptied-refusal 11 (firstCrowded s)) (reserved-emptied (scheduled s))
+  -- A refusal with a number above 10 is one of the judgement, and one up to 10 is one of the form.
+  pub read-judged : (number place : ℕ) → 11 ≤ number
+      → (readOf bytes ≡ refused number place) ↔ ((s : Site) × InForm bytes s × (judgeOf s ≡ refused number place))
+  unfolding readOf judgeForm
+  read-judged number place l = (
+    λ e. go (decode bytes) refl e,
+    λ w. rw (w .1 .are) (read-plan (w .0) (w .1 .formed) (w .1 .some) ∙ w .2),
+  )
+    where
+      go : (r : Outcome Site) → decode bytes ≡ r → judgeForm r ≡ refused number place
+          → (s : Site) × InForm bytes s × (judgeOf s ≡ refused number place)
+      go (accepted s) d q = (s, decode-form bytes small s d, q)
+      go (refused m p) d q = let n : m ≡ number = cc in absurd (omega (arith, decode-numbers bytes small m p d))
+
+  pub read-refused : (number place : ℕ) → ((readOf bytes ≡ refused number place) × (number ≤ 10)) ↔ (decode bytes ≡ refused number place)
+  unfolding readOf judgeForm
+  read-refused number place = (
+    λ w. go (decode bytes) refl (w .0) (w .1),
+    λ e. (ap judgeForm e, decode-numbers bytes small number place e),
+  )
+    where
+      go : (r : Outcome Site) → decode bytes ≡ r → judgeForm r ≡ refused number place → number ≤ 10 → decode bytes ≡ refused number place
+      go (accepted s) d q l = absurd (omega (arith, judge-numbers s number place q))
+      go (refused m p) d q l = d ∙ q

@@ -1,28 +1,33 @@
--- Site to bytes to site: the bytes of nodes and flows in form are read to them.
+-- Site to bytes to site: bytes that begin with the commands of nodes and flows in form are read to them.
 use Prim.Native.Nat.{ℕ, zero, suc, _+_, _-_, _<_, _≤_}
 use mathlib.Core.Path.{_≡_, refl, sym, _∙_, ap}
-use mathlib.Core.List.{List, [], _∷_, _++_, append-assoc}
-use mathlib.Core.Logic.{_⊎_, inl, inr}
-use lib.ListN.{length, getD, drop, set, replicate, length-drop, List·getD-eq-default}
-use lib.Seq.{getD-drop, drop-drop}
-use borrow.Author.Tests.{le-ltb, lt-leb, ne-eqb}
+use mathlib.Core.List.{List, _++_, append-assoc}
+use mathlib.Core.Logic.{_⊎_, inl, inr, ⊎-elim}
+use mathlib.Core.Bool.{true}
+use lib.ListN.{length, getD, take, drop, take-append-drop, set, replicate, length-drop, List·getD-eq-default}
+use borrow.Author.Tests.{le-ltb, lt-leb, eq-eqb, ne-eqb, eqb-true}
+use native.Mathlib.Nat.{eq-or-lt-of-le}
 use native.Mathlib.Omega.{arith}
 use Rattle.site.specs.declared.Site.{Site}
-use Rattle.site.specs.Ruling.{accepted}
 use Rattle.site.specs.Sites.{emptySite, live, withFlow, withSchedule}
 use Rattle.site.specs.Tree.{up}
 use Rattle.site.proofs.Laws.Tree.{up-in}
-use Rattle.plan.specs.declared.Draft.{Draft}
-use Rattle.plan.specs.Bytes.{numberAt, bytesOf}
-use Rattle.plan.specs.Read.{nodeAt, flowAt, nodeFault, flowFault, withNode, nodeAdded, flowAdded, endOf, decode}
-use Rattle.plan.specs.Check.{nodeOf, flowOf}
-use Rattle.plan.specs.Write.{nodeBytes, flowBytes, flowIfLive, joined, planBytes}
-use Rattle.plan.proofs.Laws.Words.{NodeGood, IdleAt, LiveAt, Formed}
+use Rattle.reader.specs.declared.Draft.{Draft}
+use Rattle.format.specs.Bytes.{numberAt, bytesOf}
+use Rattle.reader.specs.Read.{nodeAt, flowAt, nodeFault, flowFault, withNode, nodeAdded, flowAdded, decode}
+use Rattle.limits.specs.Check.{nodeOf, flowOf}
+use Rattle.writer.specs.Write.{nodeBytes, flowBytes, flowIfLive, joined, commandBytes}
+use Rattle.limits.specs.Words.{NodeGood, IdleAt, LiveAt, Formed}
+use Rattle.plan.proofs.Laws.Drafts.{NextOf}
 use Rattle.plan.proofs.Laws.Lists.{upto, upto-long, upto-below, upto-none, upto-more, upto-skip, upto-all}
-use Rattle.plan.proofs.Laws.Numbers.{number-bytes}
-use Rattle.plan.proofs.Laws.Forms.{node-good, flow-good, good-same, good-wider}
-use Rattle.plan.proofs.Laws.Decode.{decodeOn, decode-start, decode-end, node-passes, flow-passes}
-use Rattle.plan.proofs.Laws.Write.{live-bytes, idle-bytes}
+use Rattle.format.proofs.Laws.{number-bytes, byte-at, head-at, left-at, left-long}
+use Rattle.limits.proofs.Laws.Flows.{live-few}
+use Rattle.limits.proofs.Laws.Forms.{node-good, flow-good, good-same, good-wider}
+use Rattle.reader.specs.Read.{fault, after}
+use Rattle.format.specs.Commands.{sizeOf}
+use Rattle.format.proofs.Laws.{size-node, size-flow}
+use Rattle.reader.proofs.Laws.Decode.{decodeOn, decode-start, decode-go}
+use Rattle.writer.proofs.Laws.Write.{live-bytes, idle-bytes}
 
 abbrev zeros : List ℕ
 zeros = replicate 63 0
@@ -46,20 +51,6 @@ part s k n = record {
 abbrev draft : Site → ℕ → ℕ → ℕ → Draft
 draft s k n next = record { site = part s k n; next = next }
 
--- What stands at an index, by what is left there.
-module _ (bytes : List ℕ) (at : ℕ) where
-  byte-at : (left : List ℕ) (i : ℕ) → drop at bytes ≡ left → getD bytes (at + i) 0 ≡ getD left i 0
-  byte-at left i e = sym (getD-drop at bytes i 0) ∙ ap (λ (l : List ℕ). getD l i 0) e
-
-  head-at : (left : List ℕ) → drop at bytes ≡ left → getD bytes at 0 ≡ getD left 0 0
-  head-at left e = let z : at + 0 ≡ at = omega arith in rw z at (byte-at left 0 e)
-
-  left-at : (left : List ℕ) (i : ℕ) → drop at bytes ≡ left → drop (at + i) bytes ≡ drop i left
-  left-at left i e = sym (drop-drop i at bytes) ∙ ap (λ (l : List ℕ). drop i l) e
-
-  left-long : (left : List ℕ) → drop at bytes ≡ left → length bytes - at ≡ length left
-  left-long left e = sym (length-drop at bytes) ∙ ap (λ (l : List ℕ). length l) e
-
 none-of : (xs : List ℕ) (n : ℕ) → length xs ≡ n → upto 0 xs ≡ replicate n 0
 none-of xs n e = upto-none xs ∙ ap (λ (m : ℕ). replicate m 0) e
 
@@ -78,10 +69,10 @@ module _ (s : Site) (k : ℕ) (f : NodeGood (s .parents) k (nodeOf s k)) where
   node-there bytes rest at e =
       let p : numberAt 1 bytes (at + 1) ≡ getD (s .parents) k 0 = omega (arith, byte-at bytes at _ 1 e) in
       let c : numberAt 2 bytes (at + 2) ≡ getD (s .capacities) k 0 =
-      number-bytes 2 (getD (s .capacities) k 0) bytes (bytesOf 2 (getD (s .gaps) k 0) ++ rest) (at + 2) (omega (arith, f .capacity-most))
+      number-bytes 2 (getD (s .capacities) k 0) bytes (bytesOf 2 (getD (s .gaps) k 0) ++ rest) (at + 2) (omega (arith, f .within .capacity-most))
       (left-at bytes at _ 2 e) in
       let d : numberAt 2 bytes (at + 4) ≡ getD (s .gaps) k 0 =
-      number-bytes 2 (getD (s .gaps) k 0) bytes rest (at + 4) (omega (arith, f .gap-most)) (left-at bytes at _ 4 e) in
+      number-bytes 2 (getD (s .gaps) k 0) bytes rest (at + 4) (omega (arith, f .within .gap-most)) (left-at bytes at _ 4 e) in
       λ i. record { parent = p i; capacity = c i; gap = d i }
 
   -- It passes the checks after the nodes before it.
@@ -100,7 +91,7 @@ module _ (s : Site) (n : ℕ) (f : LiveAt s n) where
       let o : numberAt 1 bytes (at + 2) ≡ getD (s .entries) n 0 = omega (arith, byte-at bytes at _ 2 e) in
       let r : numberAt 1 bytes (at + 3) ≡ getD (s .rates) n 0 = omega (arith, byte-at bytes at _ 3 e) in
       let d : numberAt 2 bytes (at + 4) ≡ getD (s .deadlines) n 0 =
-      number-bytes 2 (getD (s .deadlines) n 0) bytes rest (at + 4) (omega (arith, f .good .deadline-most)) (left-at bytes at _ 4 e) in
+      number-bytes 2 (getD (s .deadlines) n 0) bytes rest (at + 4) (omega (arith, f .good .within .deadline-most)) (left-at bytes at _ 4 e) in
       λ i. record { number = m i; entry = o i; rate = r i; deadline = d i }
 
   flow-clean : (next : ℕ) → next ≤ n → flowFault (draft s (s .links) n next) (flowOf s n) ≡ 0
@@ -170,13 +161,57 @@ module _ (s : Site) (g : Formed s) where
         upto-skip (s .deadlines) n (omega (arith, g .shape .deadlines)) (f .deadline),
       )
 
--- The reading of a node, of a flow and of the end, with what is left then.
+-- A NODE or a FLOW that passes its checks is read, and the reading goes on behind it.
+module _ (bytes : List ℕ) (at : ℕ) (d : Draft) (inside : at + 6 ≤ length bytes) where
+  node-read : getD bytes at 0 ≡ 1 → nodeFault d (nodeAt bytes at) ≡ 0 → decodeOn bytes at d ≡ decodeOn bytes (at + 6) (nodeAdded d (nodeAt bytes at))
+  unfolding fault after
+  node-read t e =
+      let q = eq-eqb _ _ t in
+      let six = size-node (getD bytes at 0) t in
+      let n : sizeOf (getD bytes at 0) ≡ 0 → ⊥ = omega arith in
+      let l : at + sizeOf (getD bytes at 0) ≤ length bytes = omega arith in
+      decode-go bytes at d (omega arith) (omega arith) (simp (ne-eqb _ _ n, le-ltb _ _ l, q, e)) ∙ rw (← six) (ap (decodeOn bytes (at + 6)) (simp q))
+
+  flow-read : getD bytes at 0 ≡ 2 → flowFault d (flowAt bytes at) ≡ 0 → decodeOn bytes at d ≡ decodeOn bytes (at + 6) (flowAdded d (flowAt bytes at))
+  unfolding fault after
+  flow-read t e =
+      let o : getD bytes at 0 ≡ 1 → ⊥ = omega arith in
+      let q = ne-eqb _ _ o in
+      let six = size-flow (getD bytes at 0) t in
+      let n : sizeOf (getD bytes at 0) ≡ 0 → ⊥ = omega arith in
+      let l : at + sizeOf (getD bytes at 0) ≤ length bytes = omega arith in
+      decode-go bytes at d (omega arith) (omega arith) (simp (ne-eqb _ _ n, le-ltb _ _ l, q, e)) ∙ rw (← six) (ap (decodeOn bytes (at + 6)) (simp q))
+
+-- How far the flows with numbers below n bring `next`.
+record NextUpto (s : Site) (n next : ℕ) : Type 0 where
+  most : next ≤ n
+  above : (k : ℕ) → k < n → live s k ≡ true → k < next
+  top : (k : ℕ) → next ≡ suc k → live s k ≡ true
+
+module _ (s : Site) (n next : ℕ) where
+  next-idle : IdleAt s n → NextUpto s n next → NextUpto s (n + 1) next
+  unfolding live
+  next-idle f w = record {
+    most = omega (arith, w .most);
+    above = λ k l e. ⊎-elim (λ q. absurd (omega (arith, f .idle, eqb-true (getD (s .states) k 0) 1 e, ap (λ (m : ℕ). getD (s .states) m 0) q))) (λ h. w .above k h e) (eq-or-lt-of-le (omega arith));
+    top = w .top;
+  }
+
+  next-live : LiveAt s n → NextUpto s n next → NextUpto s (n + 1) (n + 1)
+  unfolding live
+  next-live f w = record {
+    most = omega arith;
+    above = λ k l e. l;
+    top = λ k e. let q : k ≡ n = omega arith in rw (q, f .live);
+  }
+
 module _ (s : Site) (g : Formed s) (bytes : List ℕ) where
+  -- The reading of one command, with what is left then.
   node-step : (k at : ℕ) (rest : List ℕ) → k < s .links → drop at bytes ≡ nodeBytes s k ++ rest
       → (decodeOn bytes at (draft s k 0 0) ≡ decodeOn bytes (at + 6) (draft s (k + 1) 0 0)) × (drop (at + 6) bytes ≡ rest)
   unfolding nodeBytes bytesOf
   node-step k at rest h e = (
-    node-passes bytes at (draft s k 0 0) (omega (arith, left-long bytes at _ e)) (head-at bytes at _ e)
+    node-read bytes at (draft s k 0 0) (omega (arith, left-long bytes at _ e)) (head-at bytes at _ e)
         (rw there (node-clean s k (g .nodes k h) (g .shape .parents) (omega (arith, g .few))))
         ∙ ap (λ (d : Draft). decodeOn bytes (at + 6) d) (rw there (node-put s g k h)),
     left-at bytes at _ 6 e,
@@ -189,7 +224,7 @@ module _ (s : Site) (g : Formed s) (bytes : List ℕ) where
       → (decodeOn bytes at (draft s (s .links) n next) ≡ decodeOn bytes (at + 6) (draft s (s .links) (n + 1) (n + 1))) × (drop (at + 6) bytes ≡ rest)
   unfolding flowBytes bytesOf
   flow-step n next at rest h l f e = (
-    flow-passes bytes at (draft s (s .links) n next) (omega (arith, left-long bytes at _ e)) (head-at bytes at _ e)
+    flow-read bytes at (draft s (s .links) n next) (omega (arith, left-long bytes at _ e)) (head-at bytes at _ e)
         (rw there (flow-clean s n f next l))
         ∙ ap (λ (d : Draft). decodeOn bytes (at + 6) d) (rw there (flow-put s g n next h f)),
     left-at bytes at _ 6 e,
@@ -198,50 +233,82 @@ module _ (s : Site) (g : Formed s) (bytes : List ℕ) where
       there : flowAt bytes at ≡ flowOf s n
       there = flow-there s n f bytes rest at e
 
-  end-step : (next at : ℕ) → 1 ≤ s .links → drop at bytes ≡ 255 ∷ []
-      → decodeOn bytes at (draft s (s .links) 64 next) ≡ (accepted, part s (s .links) 64)
-  unfolding endOf part
-  end-step next at some e =
-      decode-end bytes at (draft s (s .links) 64 next) (omega (arith, left-long bytes at _ e)) (head-at bytes at _ e)
-      ∙ simp (ne-eqb (s .links) 0 (λ z. omega arith), le-ltb (at + 1) (length bytes) (omega (arith, left-long bytes at _ e)))
+  -- A command lies within the bytes.
+  node-inside : (k at : ℕ) (rest : List ℕ) → drop at bytes ≡ nodeBytes s k ++ rest → at + 6 ≤ length bytes
+  unfolding nodeBytes bytesOf
+  node-inside k at rest e = omega (arith, left-long bytes at _ e)
 
-  -- From flow number n on, with r numbers left.
-  flows-read : (r n next at : ℕ) → n + r ≡ 64 → next ≤ n → 1 ≤ s .links → drop at bytes ≡ joined (flowIfLive s) r n ++ (255 ∷ [])
-      → decodeOn bytes at (draft s (s .links) n next) ≡ (accepted, part s (s .links) 64)
+  flow-inside : (n at : ℕ) (rest : List ℕ) → drop at bytes ≡ flowBytes s n ++ rest → at + 6 ≤ length bytes
+  unfolding flowBytes bytesOf
+  flow-inside n at rest e = omega (arith, left-long bytes at _ e)
+
+  -- From flow number n on the reading comes to an index m where `rest` is left.
+  abbrev FlowsRead : ℕ → ℕ → ℕ → List ℕ → Type 0
+  FlowsRead n next at rest =
+      (m : ℕ) × (last : ℕ) × (decodeOn bytes at (draft s (s .links) n next) ≡ decodeOn bytes m (draft s (s .links) 64 last))
+      × (m ≤ length bytes) × (drop m bytes ≡ rest) × NextUpto s 64 last
+
+  -- r numbers are left.
+  flows-read : (r n next at : ℕ) (rest : List ℕ) → n + r ≡ 64 → NextUpto s n next → at ≤ length bytes
+      → drop at bytes ≡ joined (flowIfLive s) r n ++ rest → FlowsRead n next at rest
   unfolding joined
-  flows-read zero n next at c l some e = let z : n ≡ 64 = omega arith in rw z (end-step next at some e)
-  flows-read (suc r) n next at c l some e = go (g .flows n) (flows-read r (n + 1))
+  flows-read zero n next at rest c w h e = let z : n ≡ 64 = omega arith in (at, next, rw z, h, e, rw (← z) w)
+  flows-read (suc r) n next at rest c w h e = go (g .flows n) (flows-read r (n + 1))
     where
-      rest : List ℕ
-      rest = joined (flowIfLive s) r (n + 1) ++ (255 ∷ [])
+      after-n : List ℕ
+      after-n = joined (flowIfLive s) r (n + 1) ++ rest
 
-      here : drop at bytes ≡ flowIfLive s n ++ rest
-      here = e ∙ append-assoc (flowIfLive s n) (joined (flowIfLive s) r (n + 1)) (255 ∷ [])
+      here : drop at bytes ≡ flowIfLive s n ++ after-n
+      here = e ∙ append-assoc (flowIfLive s n) (joined (flowIfLive s) r (n + 1)) rest
 
       go : IdleAt s n ⊎ LiveAt s n
-          → ((next at : ℕ) → n + 1 + r ≡ 64 → next ≤ n + 1 → 1 ≤ s .links → drop at bytes ≡ rest
-          → decodeOn bytes at (draft s (s .links) (n + 1) next) ≡ (accepted, part s (s .links) 64))
-          → decodeOn bytes at (draft s (s .links) n next) ≡ (accepted, part s (s .links) 64)
+          → ((next at : ℕ) (rest : List ℕ) → n + 1 + r ≡ 64 → NextUpto s (n + 1) next → at ≤ length bytes
+          → drop at bytes ≡ joined (flowIfLive s) r (n + 1) ++ rest → FlowsRead (n + 1) next at rest)
+          → FlowsRead n next at rest
       go (inl f) ih =
           rw (← flow-skip s g n (omega arith) f)
-          (ih next at (omega arith) (omega arith) some (rw (← idle-bytes s n (omega (arith, f .idle))) at here))
+          (ih next at rest (omega arith) (next-idle s n next f w) h (rw (← idle-bytes s n (omega (arith, f .idle))) at here))
       go (inr f) ih =
-          let w = flow-step n next at rest (omega arith) l f (rw (← live-bytes s n (f .live)) at here) in
-          w .0 ∙ ih (n + 1) (at + 6) (omega arith) (omega arith) some (w .1)
+          let there = rw (← live-bytes s n (f .live)) at here in
+          let v = flow-step n next at after-n (omega arith) (w .most) f there in
+          let u = ih (n + 1) (at + 6) rest (omega arith) (next-live s n next f w) (flow-inside n at after-n there) (v .1) in
+          (u .0, u .1, v .0 ∙ u .2, u .3, u .4, u .5)
 
   -- From the node at index k on, with r nodes left.
-  nodes-read : (r k at : ℕ) → k + r ≡ s .links → 1 ≤ s .links
-      → drop at bytes ≡ joined (nodeBytes s) r k ++ (joined (flowIfLive s) 64 0 ++ (255 ∷ []))
-      → decodeOn bytes at (draft s k 0 0) ≡ (accepted, part s (s .links) 64)
+  nodes-read : (r k at : ℕ) (rest : List ℕ) → k + r ≡ s .links → at ≤ length bytes → drop at bytes ≡ joined (nodeBytes s) r k ++ rest
+      → (m : ℕ) × (decodeOn bytes at (draft s k 0 0) ≡ decodeOn bytes m (draft s (s .links) 0 0)) × (m ≤ length bytes) × (drop m bytes ≡ rest)
   unfolding joined
-  nodes-read zero k at c some e = let z : k ≡ s .links = omega arith in rw z (flows-read 64 0 0 at (omega arith) (omega arith) some e)
-  nodes-read (suc r) k at c some e =
-      let w = node-step k at (joined (nodeBytes s) r (k + 1) ++ (joined (flowIfLive s) 64 0 ++ (255 ∷ []))) (omega arith)
-      (e ∙ append-assoc (nodeBytes s k) (joined (nodeBytes s) r (k + 1)) (joined (flowIfLive s) 64 0 ++ (255 ∷ []))) in
-      w .0 ∙ nodes-read r (k + 1) (at + 6) (omega arith) some (w .1)
+  nodes-read zero k at rest c h e = let z : k ≡ s .links = omega arith in (at, rw z, h, e)
+  nodes-read (suc r) k at rest c h e =
+      let there = e ∙ append-assoc (nodeBytes s k) (joined (nodeBytes s) r (k + 1)) rest in
+      let v = node-step k at (joined (nodeBytes s) r (k + 1) ++ rest) (omega arith) there in
+      let u = nodes-read r (k + 1) (at + 6) rest (omega arith) (node-inside k at _ there) (v .1) in
+      (u .0, v .0 ∙ u .1, u .2, u .3)
 
-pub decode-plan : (s : Site) → Formed s → 1 ≤ s .links → decode (planBytes s) ≡ (accepted, withSchedule s zeros zeros)
-unfolding planBytes
-decode-plan s g some =
-    decode-start (planBytes s) ∙ ap (λ (t : Site). decodeOn (planBytes s) 0 (record { site = t; next = 0 })) (sym (part-none s g))
-    ∙ nodes-read s g (planBytes s) (s .links) 0 0 (omega arith) some refl ∙ ap (λ (t : Site). (accepted, t)) (part-all s g)
+-- Bytes that begin with the commands of s, wherever they go on.
+pub begun-read : (bytes : List ℕ) (at : ℕ) (s : Site) → Formed s → at ≤ length bytes → take at bytes ≡ commandBytes s
+    → (next : ℕ) × (decode bytes ≡ decodeOn bytes at (record { site = withSchedule s zeros zeros; next = next })) × NextOf s next
+unfolding commandBytes
+begun-read bytes at s g within are =
+    let all : bytes ≡ commandBytes s ++ drop at bytes = sym (take-append-drop at bytes) ∙ ap (λ (l : List ℕ). l ++ drop at bytes) are in
+    let v = nodes-read s g bytes (s .links) 0 0 (flows ++ drop at bytes) (omega arith) (omega arith) (all ∙ append-assoc nodes flows (drop at bytes)) in
+    let u = flows-read s g bytes 64 0 0 (v .0) (drop at bytes) (omega arith) none (v .2) (v .3) in
+    (u .1, start ∙ v .1 ∙ u .2 ∙ rw (part-all s g, same (u .0) (u .3) (u .4)), next-all (u .1) (u .5))
+  where
+    nodes : List ℕ
+    nodes = joined (nodeBytes s) (s .links) 0
+
+    flows : List ℕ
+    flows = joined (flowIfLive s) 64 0
+
+    none : NextUpto s 0 0
+    none = record { most = omega arith; above = λ k l. absurd (omega arith); top = λ k e. absurd (omega arith) }
+
+    start : decode bytes ≡ decodeOn bytes 0 (draft s 0 0 0)
+    start = decode-start bytes ∙ ap (λ (t : Site). decodeOn bytes 0 (record { site = t; next = 0 })) (sym (part-none s g))
+
+    same : (m : ℕ) → m ≤ length bytes → drop m bytes ≡ drop at bytes → m ≡ at
+    same m l e = omega (arith, length-drop m bytes, length-drop at bytes, ap length e)
+
+    next-all : (next : ℕ) → NextUpto s 64 next → NextOf s next
+    next-all next w = record { above = λ n l. w .above n (live-few s g n l) l; top = w .top }

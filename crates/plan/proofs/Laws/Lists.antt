@@ -1,14 +1,13 @@
--- Lists that are filled from the front, and items written one after the other.
-use Prim.Native.Nat.{ℕ, zero, suc, _+_, _-_, _<_, _≤_}
-use mathlib.Core.Path.{_≡_, refl, sym, _∙_, ap}
-use mathlib.Core.List.{List, [], _++_}
+-- Lists that are filled from the front.
+use Prim.Native.Nat.{ℕ, suc, _+_, _-_, _<_, _≤_}
+use mathlib.Core.Path.{_≡_, sym, _∙_, ap}
+use mathlib.Core.List.{List, _++_}
 use mathlib.Core.Logic.{⊎-elim}
 use lib.ListN.{length, getD, take, set, replicate, length-append, length-replicate, getD-replicate, List·getD-eq-default, List·getD-append}
 use lib.Seq.{length-take-le, take-suc, append-snoc, getD-take, getD-append-add, set-at, set-getD, ext-getD}
 use native.Mathlib.Numerals.{add-one}
 use native.Mathlib.Omega.{arith}
 use Rattle.pinwheel.proofs.Laws.Search.{lt-or-le}
-use Rattle.plan.specs.Write.{joined}
 
 -- The list with 0 from index k on.
 unfoldable pub upto : ℕ → List ℕ → List ℕ
@@ -52,24 +51,3 @@ module _ (xs : List ℕ) where
   upto-all k h e =
       ext-getD 0 (upto k xs) xs (upto-long k h)
       (λ i l. ⊎-elim (λ m. upto-below k i h m) (λ m. upto-above k i h m ∙ sym (e i m)) (lt-or-le i k))
-
-module _ (item : ℕ → List ℕ) where
-  -- The next of n items, where some are left.
-  pub joined-next : (n i : ℕ) → i < n → joined item (n - i) i ≡ item i ++ joined item (n - (i + 1)) (i + 1)
-  unfolding joined
-  joined-next n i l = let e : n - i ≡ suc (n - (i + 1)) = omega arith in rw e
-
-  -- Items that are empty leave nothing.
-  pub joined-skip : (g r i : ℕ) → ((k : ℕ) → i ≤ k → k < i + g → item k ≡ []) → joined item (g + r) i ≡ joined item r (i + g)
-  unfolding joined
-  joined-skip zero r i e = let a : 0 + r ≡ r = omega arith in let b : i + 0 ≡ i = omega arith in rw (a, b)
-  joined-skip (suc g) r i e =
-      let a : suc g + r ≡ suc (g + r) = omega arith in
-      let b : i + suc g ≡ i + 1 + g = omega arith in
-      rw (a, b, e i (omega arith) (omega arith)) (joined-skip g r (i + 1) (λ k lo hi. e k (omega arith) (omega arith)))
-
-pub joined-same : (item other : ℕ → List ℕ) (r i : ℕ) → ((k : ℕ) → i ≤ k → k < i + r → item k ≡ other k) → joined item r i ≡ joined other r i
-unfolding joined
-joined-same item other zero i e = refl
-joined-same item other (suc r) i e =
-    rw (e i (omega arith) (omega arith), joined-same item other r (i + 1) (λ k lo hi. e k (omega arith) (omega arith)))

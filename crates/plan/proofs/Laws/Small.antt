@@ -5,10 +5,11 @@ use mathlib.Core.Logic.{_⊎_, inl, inr}
 use native.Mathlib.Omega.{arith}
 use Rattle.site.specs.declared.Site.{Site}
 use Rattle.site.specs.Sites.{live}
-use Rattle.plan.specs.Bytes.{bytesOf}
-use Rattle.plan.specs.Check.{nodeOf, flowOf}
-use Rattle.plan.specs.Write.{nodeBytes, flowBytes, flowIfLive, joined, planBytes}
-use Rattle.plan.proofs.Laws.Words.{Bytes, NodeGood, IdleAt, LiveAt, Formed}
+use Rattle.format.specs.Bytes.{bytesOf}
+use Rattle.limits.specs.Check.{nodeOf, flowOf}
+use Rattle.writer.specs.Write.{nodeBytes, flowBytes, flowIfLive, joined, commandBytes, planBytes}
+use Rattle.format.specs.Words.{Bytes}
+use Rattle.limits.specs.Words.{NodeGood, IdleAt, LiveAt, Formed}
 
 -- The same as a record, so that the prover finds the lists in a goal.
 record Small (bytes : List ℕ) : Type 0 where
@@ -48,14 +49,16 @@ unfolding flowIfLive flowBytes flowOf live
 small-flow s n few (inl f) = rw (f .idle) small-none
 small-flow s n few (inr f) =
     let w = f .good in
-    rw (f .live) (small-first (omega arith) (small-first (omega (arith, w .number-most)) (small-first (omega (arith, w .entry-most))
-    (small-first (omega (arith, w .rate-most)) (small-number 2 _)))))
+    rw (f .live) (small-first (omega arith) (small-first (omega (arith, w .within .number-most)) (small-first (omega (arith, w .entry-most))
+    (small-first (omega (arith, w .within .rate-most)) (small-number 2 _)))))
 
 pub plan-small : (s : Site) → Formed s → Bytes (planBytes s)
-unfolding planBytes
+unfolding planBytes commandBytes
 plan-small s g = all .each
   where
     all : Small (planBytes s)
     all =
-        small-append (small-joined (nodeBytes s) (s .links) 0 (λ i l. small-node s i (omega (arith, g .few)) (g .nodes i (omega arith))))
-        (small-append (small-joined (flowIfLive s) 64 0 (λ n l. small-flow s n (g .few) (g .flows n))) (small-first (omega arith) small-none))
+        small-append
+        (small-append (small-joined (nodeBytes s) (s .links) 0 (λ i l. small-node s i (omega (arith, g .few)) (g .nodes i (omega arith))))
+        (small-joined (flowIfLive s) 64 0 (λ n l. small-flow s n (g .few) (g .flows n))))
+        (small-first (omega arith) small-none)

@@ -13,13 +13,15 @@ use native.Mathlib.Nat.{eq-or-lt-of-le, suc-add, zero-add, add-zero}
 use native.Mathlib.Numerals.{add-one}
 use native.Mathlib.Omega.{arith}
 use Rattle.pinwheel.specs.Rule.{base, periodsOf, offsetsOf}
-use Rattle.pinwheel.specs.Deal.{Outcome, accepted, refused, dealt}
-use Rattle.pinwheel.proofs.Laws.Words.{InLimits}
+use Rattle.pinwheel.specs.Outcome.{Outcome, accepted, refused}
+use Rattle.pinwheel.specs.Deal.{dealt}
+use Rattle.pinwheel.specs.Words.{InLimits}
 use Rattle.pinwheel.proofs.Laws.Checks.{good-dealt}
 use Rattle.pinwheel.proofs.Laws.Search.{lt-or-le, first-is, first-skip, first-end}
 use Rattle.site.specs.declared.Site.{Site}
 use Rattle.site.specs.Schedule.{used, kept, gapsFrom, gapsUnder, rank, dealtUnder, baseOf, baseUnder, crowded, firstCrowded}
 use Rattle.site.specs.Schedule.{entryDealt, listed, offsetsDealt, periodsDealt}
+use Rattle.site.specs.Words.{Wellgapped}
 use Rattle.site.specs.Inner.{GapsOf, DealtTo, Spread, SlotsOf}
 
 -- The gaps wanted by p's children among the r links from index i on.
@@ -204,7 +206,7 @@ module _ (s : Site) (p n : ℕ) (gaps zs ys : List ℕ) (g : GapsOf s p n gaps) 
   unfolding dealtUnder
   same = rw (z, y, take-replicate n 63 0 (g .few), g .are, ← gaps-number s p n gaps g)
 
-  pub dealt-to : (answer : Outcome) (os ps : List ℕ) → (answer, os, ps) ≡ dealt 2 (take n gaps) (take n zs) (take n ys)
+  pub dealt-to : (answer : Outcome ℕ) (os ps : List ℕ) → (answer, os, ps) ≡ dealt 2 (take n gaps) (take n zs) (take n ys)
       → (b : ℕ) → b ≡ baseOf answer
       → length os ≡ length (take n zs) → length ps ≡ length (take n ys)
       → DealtTo s p b n (os ++ drop n zs) (ps ++ drop n ys)
@@ -215,9 +217,9 @@ module _ (s : Site) (p n : ℕ) (gaps zs ys : List ℕ) (g : GapsOf s p n gaps) 
         periods-long = length-front ys ps n k ∙ rw y;
         number = gaps-number s p n gaps g;
         few = g .few;
-        base = q ∙ ap (λ (r : Outcome × List ℕ × List ℕ). baseOf (r .0)) told;
-        offsets = take-at os (drop n zs) n (o ∙ front zs z) ∙ ap (λ (r : Outcome × List ℕ × List ℕ). r .1) told;
-        periods = take-at ps (drop n ys) n (k ∙ front ys y) ∙ ap (λ (r : Outcome × List ℕ × List ℕ). r .2) told;
+        base = q ∙ ap (λ (r : Outcome ℕ × List ℕ × List ℕ). baseOf (r .0)) told;
+        offsets = take-at os (drop n zs) n (o ∙ front zs z) ∙ ap (λ (r : Outcome ℕ × List ℕ × List ℕ). r .1) told;
+        periods = take-at ps (drop n ys) n (k ∙ front ys y) ∙ ap (λ (r : Outcome ℕ × List ℕ × List ℕ). r .2) told;
       }
     where
       front : (xs : List ℕ) → xs ≡ replicate 63 0 → length (take n xs) ≡ n
@@ -410,10 +412,7 @@ module _ (s : Site) where
       at : (lists : ℕ → List ℕ) → getD (listed (entryDealt s lists) 63 0) i 0 ≡ 0
       at lists = entry-listed s lists i l ∙ entry-none s lists i (λ k b. omega arith)
 
--- Every link of the site has a gap from 1 to 1,024.
-pub record Wellgapped (s : Site) : Type 0 where
-  pub limits : (i : ℕ) → i < used (s .links) → InLimits (getD (s .gaps) i 0)
-
+-- With gaps from 1 to 1,024 everywhere, so are those of a parent's children.
 kept-limits : (t : Bool) (x : ℕ) (xs : List ℕ) → InLimits x → ((k : ℕ) → k < length xs → InLimits (getD xs k 0))
     → (k : ℕ) → k < length (kept t x xs) → InLimits (getD (kept t x xs) k 0)
 kept-limits true x xs h each zero l = h
@@ -433,7 +432,7 @@ module _ (s : Site) (p : ℕ) where
   zeros = replicate (length (gapsUnder s p)) 0
 
   -- What the slot rule deals to the children of p where only the base is left to judge; the test is whether it is 0.
-  abbrev ruled : Bool → Outcome × List ℕ × List ℕ
+  abbrev ruled : Bool → Outcome ℕ × List ℕ × List ℕ
   ruled t = cond t (refused 11 0, zeros, zeros) (accepted (base 2 (gapsUnder s p)), offsetsOf 2 (gapsUnder s p), periodsOf 2 (gapsUnder s p))
 
   -- With such gaps the slot rule refuses no parent that has children, except where no base fits them.
@@ -451,7 +450,7 @@ module _ (s : Site) (p : ℕ) where
 
     pub base-under : baseUnder s p ≡ base 2 (gapsUnder s p)
     unfolding baseUnder baseOf
-    base-under = ap (λ (r : Outcome × List ℕ × List ℕ). baseOf (r .0)) by-base ∙ go (eqb (base 2 (gapsUnder s p)) 0) refl
+    base-under = ap (λ (r : Outcome ℕ × List ℕ × List ℕ). baseOf (r .0)) by-base ∙ go (eqb (base 2 (gapsUnder s p)) 0) refl
       where
         go : (t : Bool) → eqb (base 2 (gapsUnder s p)) 0 ≡ t → baseOf (ruled t .0) ≡ base 2 (gapsUnder s p)
         go true e = sym (eqb-true _ _ e)

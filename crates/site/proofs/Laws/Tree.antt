@@ -10,7 +10,9 @@ use borrow.Author.Tests.{lt-ltb, le-ltb, eq-eqb, ltb-true, eqb-true}
 use native.Mathlib.Omega.{arith}
 use Rattle.pinwheel.proofs.Laws.Search.{lt-or-le}
 use Rattle.site.specs.Sites.{ofLink}
+use Rattle.site.specs.Words.{Leads, root, link}
 use Rattle.site.specs.Tree.{up, depthIn, depthOf, climb, route, has}
+use Rattle.site.proofs.Laws.Choices.{cond-same}
 
 -- Within a list it does not matter what stands for the entries beyond it.
 getD-within : (xs : List ℕ) (i d e : ℕ) → i < length xs → getD xs i d ≡ getD xs i e
@@ -32,11 +34,6 @@ pub link-in : (xs : List ℕ) (n : ℕ) → 0 < n → getD xs (n - 1) 0 ≡ ofLi
 unfolding ofLink
 link-in xs zero o = absurd (omega arith)
 link-in xs (suc i) o = let e : suc i - 1 ≡ i = omega arith in rw e
-
--- Two choices with one test are the same where they are when the test holds.
-cond-then : {A : Type 0} (b : Bool) (x y z : A) → (b ≡ true → x ≡ y) → cond b x z ≡ cond b y z
-cond-then true x y z h = h refl
-cond-then false x y z h = refl
 
 module _ (p : List ℕ) where
   pub up-root : (n : ℕ) → n ≡ 0 → 0 ≡ up p n
@@ -68,8 +65,8 @@ module _ (p : List ℕ) where
   climb-fuel zero (suc g) n a b = simp (le-ltb (up p n) n (omega arith))
   climb-fuel (suc f) zero n a b = simp (le-ltb (up p n) n (omega arith))
   climb-fuel (suc f) (suc g) n a b =
-      cond-then (ltb (up p n) n) _ _ []
-      (λ t. let l = ltb-true (up p n) n t in ap (λ (r : List ℕ). n ∷ r) (climb-fuel f g (up p n) (omega arith) (omega arith)))
+      cond-same (ltb (up p n) n)
+      (λ t. let l = ltb-true (up p n) n t in ap (λ (r : List ℕ). n ∷ r) (climb-fuel f g (up p n) (omega arith) (omega arith))) (λ t. refl)
 
   depth-climb : (f n : ℕ) → depthIn f p n ≡ length (climb f p n)
   unfolding climb depthIn
@@ -167,11 +164,6 @@ has-met m (k ∷ ms) (suc j) l e = rw (has-met m ms j (omega arith) e) (either (
 
 pub has-when : (m : ℕ) (ms : List ℕ) → (has m ms ≡ true) ↔ ((j : ℕ) × (j < length ms) × (getD ms j 0 ≡ m))
 has-when m ms = (has-found m ms, λ w. has-met m ms (w .0) (w .1) (w .2))
-
--- A route that reaches the root: each number is a node's, and the next is its parent's.
-pub data Leads (p : List ℕ) : ℕ → List ℕ → Type 0 where
-  root : Leads p 0 []
-  link : (n : ℕ) (ms : List ℕ) → up p n < n → Leads p (up p n) ms → Leads p n (n ∷ ms)
 
 -- Where every number up to n but the root's has a parent with a smaller number, n's route reaches the root.
 pub route-leads : (p : List ℕ) (n : ℕ) → ((m : ℕ) → 1 ≤ m → m ≤ n → up p m < m) → Leads p n (route p n)

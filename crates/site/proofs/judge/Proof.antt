@@ -12,8 +12,8 @@ use Rattle.site.proofs.judge.Tie as tie
 deal-all-requires : tie.Need-deal-all-requires
 deal-all-requires c κs = search needs
 
-used-requires : tie.Need-used-requires
-used-requires c κs = search needs
+link-count-requires : tie.Need-link-count-requires
+link-count-requires c κs = search needs
 
 refusal-requires : tie.Need-refusal-requires
 refusal-requires c κs = search needs
@@ -21,7 +21,7 @@ refusal-requires c κs = search needs
 returns : tie.Need-returns
 returns c =
     let judged = c .before in
-    c .refusal .ensures ∙ refuse-crowded _ _ _ (judged .before .used .ensures) (judged .before .before .deal-all .ensures .crowded) (judged .if1 .taken)
+    c .refusal .ensures ∙ refuse-crowded _ _ _ (judged .before .link-count .ensures) (judged .before .before .deal-all .ensures .crowded) (judged .if1 .taken)
 
 judge-reservations-requires : tie.Need-judge-reservations-requires
 judge-reservations-requires c κs = search needs
@@ -31,7 +31,7 @@ unfolding withSchedule
 returns-2 c =
     let judged = c .before .before .before in
     let dealt = judged .before .before .deal-all .ensures in
-    let links = judged .before .used .ensures in
+    let links = judged .before .link-count .ensures in
     let none : used (judged .before .before .before .args .site .links) < judged .before .before .deal-all .result .crowded = omega arith in
     c .judge-reservations .ensures ∙ go-on _ _ _ links (dealt .crowded) (judged .if1 .left) _ _ (dealt .offsets none) (dealt .periods none)
 
@@ -40,7 +40,7 @@ judge-spec =
     tie.close
     (tie.spec
     deal-all-requires
-    used-requires
+    link-count-requires
     refusal-requires
     returns
     judge-reservations-requires

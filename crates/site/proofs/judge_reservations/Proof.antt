@@ -5,8 +5,8 @@ use Rattle.site.proofs.Laws.Rulings.{refuse-over, refuse-late, accept-r
 use Rattle.site.proofs.judge_reservations.Statement.{statement}
 use Rattle.site.proofs.judge_reservations.Tie as tie
 
-used-requires : tie.Need-used-requires
-used-requires c κs = search needs
+link-count-requires : tie.Need-link-count-requires
+link-count-requires c κs = search needs
 
 first-over-requires : tie.Need-first-over-requires
 first-over-requires c κs = search needs
@@ -23,7 +23,7 @@ refusal-requires c κs = search needs
 returns : tie.Need-returns
 returns c =
     let found = c .before .before in
-    c .refusal .ensures ∙ refuse-over _ _ _ (found .before .before .used .ensures) (found .before .first-over .ensures) (c .before .if1 .taken)
+    c .refusal .ensures ∙ refuse-over _ _ _ (found .before .before .link-count .ensures) (found .before .first-over .ensures) (c .before .if1 .taken)
 
 refusal-requires-2 : tie.Need-refusal-requires-2
 refusal-requires-2 c κs = search needs
@@ -31,20 +31,20 @@ refusal-requires-2 c κs = search needs
 returns-2 : tie.Need-returns-2
 returns-2 c =
     let found = c .before .before .before in
-    c .refusal2 .ensures ∙ refuse-late _ _ _ (found .before .before .used .ensures) (found .before .first-over .ensures)
+    c .refusal2 .ensures ∙ refuse-late _ _ _ (found .before .before .link-count .ensures) (found .before .first-over .ensures)
     (c .before .before .if1 .left) _ (found .first-late .ensures) (c .before .if2 .taken)
 
 returns-3 : tie.Need-returns-3
 returns-3 c =
     let found = c .before .before in
-    accept-reserved _ _ _ (found .before .before .used .ensures) (found .before .first-over .ensures) (c .before .if1 .left) _
+    accept-reserved _ _ _ (found .before .before .link-count .ensures) (found .before .first-over .ensures) (c .before .if1 .left) _
     (found .first-late .ensures) (c .if2 .left)
 
 pub judge-reservations-spec : {M : Type 1} → statement M
 judge-reservations-spec =
     tie.close
     (tie.spec
-    used-requires
+    link-count-requires
     first-over-requires
     first-late-requires
     add-refusal

@@ -1,5 +1,6 @@
 -- `refusal` gives the empty site beside the number and the place.
 use borrow.Author.Needs.{needs}
+use Rattle.site.specs.Judge.{withSite}
 use Rattle.site.proofs.refusal.Statement.{statement}
 use Rattle.site.proofs.refusal.Tie as tie
 
@@ -7,6 +8,7 @@ empty-requires : tie.Need-empty-requires
 empty-requires c κs = search needs
 
 returns : tie.Need-returns
+unfolding withSite
 returns c = rw (c .empty .ensures)
 
 pub refusal-spec : {M : Type 1} → statement M

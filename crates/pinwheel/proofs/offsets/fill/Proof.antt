@@ -51,13 +51,4 @@ loop-again c =
 pub fill-spec : {M : Type 1} → statement M
 fill-spec =
     tie.close
-    (tie.spec
-    Inv-loop
-    μ-loop
-    loop-holds
-    next-period-requires
-    same-length
-    returns
-    fill-level-requires
-    loop-less
-    loop-again)
+    (tie.spec Inv-loop μ-loop loop-holds next-period-requires same-length returns fill-level-requires loop-less loop-again)

@@ -2,7 +2,7 @@
 -- and the two lists hold those that had theirs.
 use borrow.Author.Needs.{needs}
 use Prim.Native.Nat.{_-_, _<_}
-use mathlib.Core.Logic.{⊎-elim}
+use mathlib.Core.Logic.{inl, inr}
 use lib.ListN.{length}
 use native.Mathlib.Omega.{arith}
 use Rattle.pinwheel.proofs.Laws.Turns.{Dealing, dealing-start, dealing-pass, dealing-place, dealing-found, dealing-turn, dealing-end}
@@ -74,10 +74,10 @@ loop-again c =
     let sofar = c .before .before .before .loop .inv in
     let pre = c .before .before .before .before .before .before .pre in
     let turn = c .before .before .loop-test .taken in
-    ⊎-elim
-    (λ w. rw (w .4, w .5, w .6, w .7, w .8) (dealing-turn _ _ _ _ _ _ _ _ _ sofar (pre .2) (pre .1) turn (w .0 .taken) _ (w .3 .ensures)))
-    (λ w. rw (w .1, w .2, w .3, w .4, w .5) (dealing-pass _ _ _ _ _ _ _ _ _ sofar turn (w .0 .left)))
-    (c .if1 .came)
+    elim (c .if1 .came) [
+      | inl w ↦ rw (w .4, w .5, w .6, w .7, w .8) (dealing-turn _ _ _ _ _ _ _ _ _ sofar (pre .2) (pre .1) turn (w .0 .taken) _ (w .3 .ensures))
+      | inr w ↦ rw (w .1, w .2, w .3, w .4, w .5) (dealing-pass _ _ _ _ _ _ _ _ _ sofar turn (w .0 .left))
+    ]
 
 same-length : tie.Need-same-length Inv-loop μ-loop
 same-length c = search needs

@@ -8,9 +8,9 @@ use mathlib.Core.List.{List}
 use lib.ListN.{getD}
 use borrow.Author.Tests.{eq-eqb, ne-eqb}
 use native.Mathlib.Omega.{arith}
-use Rattle.pinwheel.specs.Search.{any}
+use Rattle.pinwheel.specs.Search.{firstIn, any}
 use Rattle.pinwheel.specs.Rule.{sends}
-use Rattle.pinwheel.specs.Inner.{firstIn, someSends}
+use Rattle.pinwheel.specs.Inner.{someSends}
 use Rattle.pinwheel.proofs.Laws.Search.{first-hit, first-miss, first-end, any-hit, any-miss, any-end}
 use Rattle.pinwheel.proofs.offsets.free_offset.Statement.{statement}
 use Rattle.pinwheel.proofs.offsets.free_offset.Tie as tie
@@ -89,8 +89,13 @@ earlier-again : tie.Need-earlier-again Inv-earlier μ-earlier Inv-search μ-sear
 unfolding sends
 earlier-again c =
     let try = c .before .before .before .before .earlier .inv in
-    let miss = any-miss _ _ _ (c .before .before .before .earlier-test .taken) (ne-eqb _ _ (c .if2 .left)) in
-    record { same = try .same; below = try .below; answer = try .answer; upto = omega arith; none = try .none ∙ miss }
+    record {
+      same = try .same;
+      below = try .below;
+      answer = try .answer;
+      upto = omega arith;
+      none = try .none ∙ any-miss _ _ _ (c .before .before .before .earlier-test .taken) (ne-eqb _ _ (c .if2 .left));
+    }
 
 returns : tie.Need-returns Inv-earlier μ-earlier Inv-search μ-search
 returns c = sym (c .before .search .inv ∙ first-end _ _ _ (c .if1 .taken))

@@ -4,7 +4,7 @@ use Prim.Native.Nat.{_-_, _≤_}
 use mathlib.Core.Path.{_≡_, sym, _∙_}
 use mathlib.Core.Logic.{⊎-elim}
 use native.Mathlib.Omega.{arith}
-use Rattle.pinwheel.specs.Inner.{firstIn}
+use Rattle.pinwheel.specs.Search.{firstIn}
 use Rattle.pinwheel.proofs.Laws.Search.{first-hit, first-miss, first-end}
 use Rattle.site.specs.Reservations.{late, firstLate}
 use Rattle.site.proofs.Laws.Reservations.{late-none, late-over, late-kept}

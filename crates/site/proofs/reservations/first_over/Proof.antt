@@ -4,7 +4,7 @@ use Prim.Native.Nat.{_-_, _≤_}
 use mathlib.Core.Path.{_≡_, sym, _∙_}
 use native.Mathlib.Nat.{sub-zero}
 use native.Mathlib.Omega.{arith}
-use Rattle.pinwheel.specs.Inner.{firstIn}
+use Rattle.pinwheel.specs.Search.{firstIn}
 use Rattle.pinwheel.proofs.Laws.Search.{first-hit, first-miss, first-end}
 use Rattle.site.specs.Schedule.{used}
 use Rattle.site.specs.Reservations.{over, firstOver}
@@ -18,15 +18,15 @@ Inv-loop site links loads i₀ i = (links ≤ 63) × (i ≤ links) × (firstOver
 abbrev μ-loop : tie.MeasureT-loop
 μ-loop site links loads i₀ i = links - i
 
-used-requires : tie.Need-used-requires Inv-loop μ-loop
-used-requires c κs = tt
+link-count-requires : tie.Need-link-count-requires Inv-loop μ-loop
+link-count-requires c κs = tt
 
 loads-of-requires : tie.Need-loads-of-requires Inv-loop μ-loop
 loads-of-requires c κs = tt
 
 loop-holds : tie.Need-loop-holds Inv-loop μ-loop
 unfolding used firstOver
-loop-holds c = (omega (arith, c .before .used .ensures), search needs, rw (c .before .used .ensures, sub-zero))
+loop-holds c = (omega (arith, c .before .link-count .ensures), search needs, rw (c .before .link-count .ensures, sub-zero))
 
 mul-if1 : tie.Need-mul-if1 Inv-loop μ-loop
 mul-if1 c = search needs
@@ -68,7 +68,7 @@ first-over-spec =
     (tie.spec
     Inv-loop
     μ-loop
-    used-requires
+    link-count-requires
     loads-of-requires
     loop-holds
     mul-if1

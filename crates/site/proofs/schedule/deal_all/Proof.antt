@@ -1,7 +1,7 @@
 -- `deal_all` goes through the parents: those passed are not crowded and their children have their entries. It stops at the first crowded one.
 use borrow.Author.Needs.{needs}
 use Prim.Native.Nat.{_+_, _-_}
-use mathlib.Core.Logic.{⊎-elim}
+use mathlib.Core.Logic.{inl, inr}
 use native.Mathlib.Omega.{arith}
 use Rattle.site.proofs.Laws.Schedule.{Dealing, dealing-start, dealing-none, dealing-more, dealing-crowded, dealing-end}
 use Rattle.site.proofs.schedule.deal_all.Statement.{statement}
@@ -13,8 +13,8 @@ Inv-loop site n offsets₀ periods₀ p₀ offsets periods p = Dealing site p of
 abbrev μ-loop : tie.MeasureT-loop
 μ-loop site n offsets₀ periods₀ p₀ offsets periods p = n + 1 - p
 
-used-requires : tie.Need-used-requires Inv-loop μ-loop
-used-requires c κs = search needs
+link-count-requires : tie.Need-link-count-requires Inv-loop μ-loop
+link-count-requires c κs = search needs
 
 zeros-requires : tie.Need-zeros-requires Inv-loop μ-loop
 zeros-requires c κs = search needs
@@ -57,11 +57,12 @@ loop-again c =
     let gathered = c .before in
     let sofar = gathered .before .before .loop .inv in
     let wanted = gathered .gaps-under .ensures in
-    ⊎-elim
-    (λ w. rw (w .9, w .10)
-    (dealing-more _ _ _ _ sofar (search needs) _ _ _ _ (w .2 .ensures _ _ wanted) (w .4 .left) _ _ (w .7 .ensures) (w .8 .ensures)))
-    (λ w. rw (w .1, w .2) (dealing-none _ _ _ _ sofar (search needs) _ _ wanted (omega arith)))
-    (c .if1 .came)
+    elim (c .if1 .came) [
+      | inl w ↦
+          rw (w .9, w .10)
+          (dealing-more _ _ _ _ sofar (search needs) _ _ _ _ (w .2 .ensures _ _ wanted) (w .4 .left) _ _ (w .7 .ensures) (w .8 .ensures))
+      | inr w ↦ rw (w .1, w .2) (dealing-none _ _ _ _ sofar (search needs) _ _ wanted (omega arith))
+    ]
 
 returns : tie.Need-returns Inv-loop μ-loop
 returns c = dealing-end _ _ _ _ (c .before .loop .inv) (search needs)
@@ -78,7 +79,7 @@ deal-all-spec =
     (tie.spec
     Inv-loop
     μ-loop
-    used-requires
+    link-count-requires
     zeros-requires
     zeros-requires-2
     loop-holds

@@ -12,8 +12,8 @@ Inv-loop parent site n gaps₀ count₀ i₀ gaps count i = Collected site paren
 abbrev μ-loop : tie.MeasureT-loop
 μ-loop parent site n gaps₀ count₀ i₀ gaps count i = n - i
 
-used-requires : tie.Need-used-requires Inv-loop μ-loop
-used-requires c κs = search needs
+link-count-requires : tie.Need-link-count-requires Inv-loop μ-loop
+link-count-requires c κs = search needs
 
 zeros-requires : tie.Need-zeros-requires Inv-loop μ-loop
 zeros-requires c κs = search needs
@@ -62,7 +62,7 @@ gaps-under-spec =
     (tie.spec
     Inv-loop
     μ-loop
-    used-requires
+    link-count-requires
     zeros-requires
     loop-holds
     element-copy-out-if1

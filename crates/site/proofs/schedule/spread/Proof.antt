@@ -12,8 +12,8 @@ Inv-loop parent site values n next₀ k₀ i₀ next k i = Handed site parent va
 abbrev μ-loop : tie.MeasureT-loop
 μ-loop parent site values n next₀ k₀ i₀ next k i = n - i
 
-used-requires : tie.Need-used-requires Inv-loop μ-loop
-used-requires c κs = search needs
+link-count-requires : tie.Need-link-count-requires Inv-loop μ-loop
+link-count-requires c κs = search needs
 
 loop-holds : tie.Need-loop-holds Inv-loop μ-loop
 loop-holds c = handed-start _ _ _ _ (search needs)
@@ -59,7 +59,7 @@ spread-spec =
     (tie.spec
     Inv-loop
     μ-loop
-    used-requires
+    link-count-requires
     loop-holds
     element-copy-out-if1
     mul-next

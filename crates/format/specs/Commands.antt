@@ -1,0 +1,12 @@
+-- 01, Plan bytes: how many bytes each command takes, its own byte among them.
+use Prim.Native.Nat.{ℕ}
+use mathlib.Core.Bool.{cond}
+use lib.Dec.{eqb}
+
+-- NODE, 01, has operands of 8, 16 and 16 bits; FLOW, 02, of 8, 8, 8 and 16. A plan has no other command but END; 0 stands for all of these.
+unfoldable pub sizeOf : ℕ → ℕ
+sizeOf tag = cond (eqb tag 1) 6 (cond (eqb tag 2) 6 0)
+
+-- LINK, 11 in hexadecimal, has operands of 8, 16 and 16 bits and stands in schedules only.
+unfoldable pub linkSize : ℕ
+linkSize = 6

@@ -1,0 +1,44 @@
+// How commands stand in bytes: their sizes, and numbers of 16 bits with the low byte first. The reader and the writers go by it.
+ghost use mathlib.Core.Path.{_≡_};
+ghost use Prim.Native.Nat.{_+_, _*_, _/_, _%_};
+ghost use Rattle.format.specs.Commands.{sizeOf, linkSize};
+
+// How many bytes a command of a plan takes, its own byte among them; 0 for a byte that is none. END is judged apart.
+pub fn size(tag: u8) -> usize
+    ensures { λ r. ⌜ r ≡ sizeOf tag ⌝ }
+{
+    if tag == 1 {
+        return 6;
+    }
+    if tag == 2 {
+        return 6;
+    }
+    0
+}
+
+// How many bytes a LINK of a schedule takes.
+pub fn link_size() -> usize
+    ensures { λ r. ⌜ r ≡ linkSize ⌝ }
+{
+    6
+}
+
+// The number of two bytes.
+pub fn word(low: u8, high: u8) -> u16
+    ensures { λ r. ⌜ r ≡ low + 256 * high ⌝ }
+{
+    low as u16 + 256 * high as u16
+}
+
+// The two bytes of a number.
+pub fn low(v: u16) -> u8
+    ensures { λ r. ⌜ r ≡ v % 256 ⌝ }
+{
+    (v % 256) as u8
+}
+
+pub fn high(v: u16) -> u8
+    ensures { λ r. ⌜ r ≡ v / 256 % 256 ⌝ }
+{
+    (v / 256 % 256) as u8
+}

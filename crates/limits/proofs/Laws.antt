@@ -1,0 +1,93 @@
+-- What is proved of check 14: what a site is that passes it, what its slots and routes have, and that flows may come and go. The modules named
+-- here hold the lemmas.
+pub mod Tests
+pub mod Forms
+pub mod Limits
+pub mod Check
+pub mod Passing
+pub mod Empty
+pub mod Flows
+use Prim.Native.Nat.{ℕ, _+_, _≤_, _<_}
+use mathlib.Core.Path.{_≡_, _∙_}
+use mathlib.Core.Bool.{true, false}
+use mathlib.Core.Logic.{_↔_}
+use lib.ListN.{length, getD}
+use native.Mathlib.Omega.{arith}
+use Rattle.site.specs.declared.Site.{Site}
+use Rattle.site.specs.declared.Flow.{Flow}
+use Rattle.site.specs.Sites.{ofLink, live, withFlow, withoutFlow}
+use Rattle.site.specs.Tree.{route, has}
+use Rattle.site.specs.Schedule.{linkSends}
+use Rattle.site.specs.Reservations.{gapsJudged, routeOf, widthAt, load, along, delayBound}
+use Rattle.site.specs.Words.{Leads}
+use Rattle.site.proofs.Laws as site
+use Rattle.site.proofs.Laws.Tree.{route-leads, route-falls}
+use Rattle.limits.specs.Check.{flowOf, passesOf}
+use Rattle.limits.specs.Words.{FlowGood, Sound}
+use Rattle.limits.proofs.Laws.Passing.{judged-when, passes-parts}
+use Rattle.limits.proofs.Laws.Flows.{live-few, live-fits, parent-below, route-short, without-none, without-with}
+use Rattle.limits.proofs.Laws.Flows.{sound-timed, sound-with, sound-without}
+
+-- Check 14 lets a site pass just when it is as the words say.
+pub passes-sound : (s : Site) → (passesOf s ≡ true) ↔ Sound s
+passes-sound s = (
+  λ e. let w = passes-parts s .0 e in let j = judged-when s (w .0) .0 (w .1) in
+      record { formed = w .0; served = j .0; carried = rw (w .2) (j .1); punctual = rw (w .2) (j .2); own = w .2 },
+  λ w. passes-parts s .1
+      (w .formed, judged-when s (w .formed) .1 (w .served, rw (← w .own) (w .carried), rw (← w .own) (w .punctual)), w .own),
+)
+
+module _ (s : Site) (e : passesOf s ≡ true) where
+  sound : Sound s
+  sound = passes-sound s .0 e
+
+  -- 01, The site: two links of one parent share no slot.
+  pub siblings-apart : (n m t : ℕ) → (n ≡ m → ⊥) → ofLink (s .parents) n ≡ ofLink (s .parents) m
+      → linkSends s n t ≡ true → linkSends s m t ≡ true → ⊥
+  siblings-apart = site.siblings-apart s (sound-timed s sound)
+
+  -- Each link sends exactly once in every run of `period` slots.
+  pub link-once : (n start : ℕ) → 1 ≤ n → n ≤ s .links
+      → (t : ℕ) × (start ≤ t) × (t < start + ofLink (s .periods) n) × (linkSends s n t ≡ true)
+      × ((u : ℕ) → start ≤ u → u < start + ofLink (s .periods) n → linkSends s n u ≡ true → u ≡ t)
+  link-once = site.link-once s (sound-timed s sound)
+
+  -- Its period is at least 1 and at most its wanted gap.
+  pub period-within : (n : ℕ) → 1 ≤ n → n ≤ s .links → (1 ≤ ofLink (s .periods) n) × (ofLink (s .periods) n ≤ ofLink (s .gaps) n)
+  period-within = site.period-within s (sound-timed s sound)
+
+  -- G is at most the deadline of every live flow.
+  pub bound-within : (n : ℕ) → live s n ≡ true → delayBound s n ≤ getD (s .deadlines) n 0
+  unfolding gapsJudged flowOf
+  bound-within n l = omega (
+    arith,
+    site.bound-within s (sound-timed s sound) n (live-fits s (sound .formed) n l .entry-most),
+    sound .punctual .within n (live-few s (sound .formed) n l) l,
+  )
+
+  -- A route reaches the root, has at most 8 links, and its links' numbers fall.
+  pub route-whole : (n : ℕ) → live s n ≡ true
+      → Leads (s .parents) (getD (s .entries) n 0) (routeOf s n) × (length (routeOf s n) ≤ 8)
+      × ((j : ℕ) → j + 1 < length (routeOf s n) → getD (routeOf s n) (j + 1) 0 < getD (routeOf s n) j 0)
+  unfolding routeOf flowOf
+  route-whole n l =
+      let f = live-fits s (sound .formed) n l in (
+        route-leads (s .parents) _ (λ m a b. parent-below s (sound .formed) m a (omega (arith, f .entry-most))),
+        route-short s (sound .formed) _ (f .entry-some) (f .entry-most),
+        route-falls (s .parents) _,
+      )
+
+  -- A flow added within 01's rules leaves a site that check 14 lets pass.
+  pub flow-added : (f : Flow) → live s (f .number) ≡ false → FlowGood (s .links) 0 f
+      → ((m : ℕ) → has m (route (s .parents) (f .entry)) ≡ true → load s m + widthAt (gapsJudged s) (f .rate) m ≤ ofLink (s .capacities) m)
+      → along (gapsJudged s) (route (s .parents) (f .entry)) ≤ f .deadline
+      → passesOf (withFlow s f) ≡ true
+  flow-added f free good room time = passes-sound _ .1 (sound-with s sound f free good room time)
+
+  -- So does a flow taken away.
+  pub flow-taken : (n : ℕ) → passesOf (withoutFlow s n) ≡ true
+  flow-taken n = passes-sound _ .1 (sound-without s sound n)
+
+  -- Taking back what was added gives the very site.
+  pub flow-back : (f : Flow) → live s (f .number) ≡ false → withoutFlow (withFlow s f) (f .number) ≡ s
+  flow-back f free = without-with s f ∙ without-none s (sound .formed) (f .number) free

@@ -1,0 +1,191 @@
+-- The tests of 14, one law for each answer that a function of src/check.rt gives.
+use Prim.Native.Nat.{ℕ, _+_, _≤_, _<_}
+use mathlib.Core.Path.{_≡_, refl, sym, _∙_, ap}
+use mathlib.Core.Bool.{Bool, true, false, not, _&&_, false≢true, and-eq-true-iff}
+use mathlib.Core.List.{List, [], _∷_}
+use mathlib.Core.Logic.{_↔_}
+use lib.Dec.{eqb}
+use lib.ListN.{length, getD}
+use lib.Seq.{ext-getD}
+use borrow.Author.Tests.{lt-ltb, le-ltb, le-leb, lt-leb, eq-eqb, ne-eqb, eqb-true, leb-true, not-true, not-false}
+use borrow.Author.Count.{below-more}
+use denote.Laws.{Is}
+use mir.Val.{Val}
+use native.Mathlib.Omega.{arith}
+use borrow.Author.Needs.{needs}
+use Rattle.site.specs.declared.Site.{Site}
+use Rattle.site.specs.declared.Verdict.{Verdict}
+use Rattle.site.specs.declared.Verdict.the-variants.{Accepted, Refused}
+use Rattle.pinwheel.specs.Outcome.{accepted}
+use Rattle.site.specs.Schedule.{offsetsDealt, periodsDealt}
+use Rattle.site.specs.Judge.{ruling, withSite, judgeOf}
+use Rattle.site.proofs.Site.{the-row}
+use Rattle.limits.specs.Limits.{nodeLimits, flowLimits}
+use Rattle.site.specs.Sites.{withSchedule}
+use Rattle.site.specs.Schedule.{scheduled}
+use Rattle.site.proofs.Laws.{judge-gives}
+use Rattle.site.proofs.Laws.Rulings.{site-accepted, site-refused}
+use Rattle.limits.specs.Check.{shaped, nodeOf, flowOf, illNode, illFlow, illAt, firstIll, formed, same, accepts, stands, passesOf}
+
+-- A site's type tells how long its lists are.
+pub shaped-site : (s : Site) (us : List Val) → Is the-row s us → shaped s ≡ true
+unfolding shaped
+shaped-site s us good =
+    let a : length (s .parents) ≡ 63 = search needs in
+    let b : length (s .capacities) ≡ 63 = search needs in
+    let c : length (s .gaps) ≡ 63 = search needs in
+    let d : length (s .offsets) ≡ 63 = search needs in
+    let e : length (s .periods) ≡ 63 = search needs in
+    let f : length (s .states) ≡ 64 = search needs in
+    let g : length (s .entries) ≡ 64 = search needs in
+    let h : length (s .rates) ≡ 64 = search needs in
+    let i : length (s .deadlines) ≡ 64 = search needs in
+    rw (a, b, c, d, e, f, g, h, i)
+
+-- A node: one of a link in use, and one past the last link.
+module _ (s : Site) (i : ℕ) where
+  pub node-used : (r : ℕ) → i < s .links → r ≡ nodeLimits (s .parents) i (nodeOf s i) → not (eqb r 0) ≡ illNode s i
+  unfolding illNode
+  node-used r l e = rw (lt-ltb _ _ l, e)
+
+  module _ (past : s .links ≤ i) where
+    pub node-parent : (getD (s .parents) i 0 ≡ 0 → ⊥) → true ≡ illNode s i
+    unfolding illNode
+    node-parent n = simp (le-ltb _ _ past, ne-eqb _ _ n)
+
+    pub node-capacity : getD (s .parents) i 0 ≡ 0 → (getD (s .capacities) i 0 ≡ 0 → ⊥) → true ≡ illNode s i
+    unfolding illNode
+    node-capacity a n = simp (le-ltb _ _ past, a, ne-eqb _ _ n)
+
+    pub node-gap : getD (s .parents) i 0 ≡ 0 → getD (s .capacities) i 0 ≡ 0 → not (eqb (getD (s .gaps) i 0) 0) ≡ illNode s i
+    unfolding illNode
+    node-gap a b = simp (le-ltb _ _ past, a, b)
+
+-- A flow: a live one, one of a state that no flow has, and a number not in use.
+module _ (s : Site) (n : ℕ) where
+  pub flow-live : (r : ℕ) → getD (s .states) n 0 ≡ 1 → r ≡ flowLimits (s .links) 0 (flowOf s n) → not (eqb r 0) ≡ illFlow s n
+  unfolding illFlow
+  flow-live r l e = simp (l, e)
+
+  pub flow-state : (getD (s .states) n 0 ≡ 1 → ⊥) → (getD (s .states) n 0 ≡ 0 → ⊥) → true ≡ illFlow s n
+  unfolding illFlow
+  flow-state a b = simp (ne-eqb _ _ a, ne-eqb _ _ b)
+
+  module _ (idle : getD (s .states) n 0 ≡ 0) where
+    pub flow-entry : (getD (s .entries) n 0 ≡ 0 → ⊥) → true ≡ illFlow s n
+    unfolding illFlow
+    flow-entry a = simp (idle, ne-eqb _ _ a)
+
+    pub flow-rate : getD (s .entries) n 0 ≡ 0 → (getD (s .rates) n 0 ≡ 0 → ⊥) → true ≡ illFlow s n
+    unfolding illFlow
+    flow-rate a b = simp (idle, a, ne-eqb _ _ b)
+
+    pub flow-deadline : getD (s .entries) n 0 ≡ 0 → getD (s .rates) n 0 ≡ 0 → not (eqb (getD (s .deadlines) n 0) 0) ≡ illFlow s n
+    unfolding illFlow
+    flow-deadline a b = simp (idle, a, b)
+
+-- Both at one index.
+module _ (s : Site) (n : ℕ) where
+  pub ill-node : (t : Bool) → n < 63 → t ≡ illNode s n → t ≡ true → true ≡ illAt s n
+  unfolding illAt
+  ill-node t l e q = simp (lt-ltb _ _ l, ← e, q)
+
+  pub ill-flow : (t r : Bool) → n < 63 → t ≡ illNode s n → t ≡ false → r ≡ illFlow s n → r ≡ illAt s n
+  unfolding illAt
+  ill-flow t r l e q f = simp (lt-ltb _ _ l, ← e, q) f
+
+  pub ill-last : (r : Bool) → 63 ≤ n → r ≡ illFlow s n → r ≡ illAt s n
+  unfolding illAt
+  ill-last r l f = simp (le-ltb _ _ l) f
+
+-- The test of two lists says whether they are equal.
+same-equal : (a b : List ℕ) → same a b ≡ true → a ≡ b
+unfolding same
+same-equal [] [] e = refl
+same-equal [] (y ∷ ys) e = absurd (false≢true e)
+same-equal (x ∷ xs) [] e = absurd (false≢true e)
+same-equal (x ∷ xs) (y ∷ ys) e = go (eqb x y) refl (same-equal xs ys) e
+  where
+    go : (t : Bool) → eqb x y ≡ t → (same xs ys ≡ true → xs ≡ ys) → t && same xs ys ≡ true → x ∷ xs ≡ y ∷ ys
+    go true q ih e = let h = eqb-true _ _ q in let t = ih e in λ i. h i ∷ t i
+    go false q ih e = absurd (false≢true e)
+
+same-self : (a : List ℕ) → same a a ≡ true
+unfolding same
+same-self [] = refl
+same-self (x ∷ xs) = rw (eq-eqb x x refl, same-self xs)
+
+pub same-when : (a b : List ℕ) → (same a b ≡ true) ↔ (a ≡ b)
+same-when a b = (same-equal a b, λ e. rw e (same-self b))
+
+-- Two lists of which the first i entries are equal.
+pub record Alike (a b : List ℕ) (i : ℕ) : Type 0 where
+  pub long : length a ≡ length b
+  pub most : i ≤ length a
+  pub each : (k : ℕ) → k < i → getD a k 0 ≡ getD b k 0
+
+module _ (a b : List ℕ) where
+  unlike : (a ≡ b → ⊥) → false ≡ same a b
+  unlike n = go (same a b) refl
+    where
+      go : (t : Bool) → same a b ≡ t → false ≡ same a b
+      go true e = absurd (n (same-when a b .0 e))
+      go false e = sym e
+
+  pub unlike-length : (length b ≡ length a → ⊥) → false ≡ same a b
+  unlike-length n = unlike (λ e. n (sym (ap length e)))
+
+  pub unlike-at : (i : ℕ) → (getD a i 0 ≡ getD b i 0 → ⊥) → false ≡ same a b
+  unlike-at i n = unlike (λ e. n (ap (λ (l : List ℕ). getD l i 0) e))
+
+  pub alike-more : (i : ℕ) → Alike a b i → i < length a → getD a i 0 ≡ getD b i 0 → Alike a b (i + 1)
+  alike-more i w l e = record { long = w .long; most = omega arith; each = below-more _ i (w .each) e }
+
+  pub alike-end : (i : ℕ) → Alike a b i → length a ≤ i → true ≡ same a b
+  alike-end i w l = sym (same-when a b .1 (ext-getD 0 a b (w .long) (λ k m. w .each k (omega arith))))
+
+-- What lets a site pass gives it the schedule that its own nodes and flows have.
+judged-lists : (s t : Site) → judgeOf s ≡ accepted t → (t .offsets ≡ offsetsDealt s) × (t .periods ≡ periodsDealt s)
+unfolding scheduled withSchedule
+judged-lists s t e = let q = judge-gives s t e in (ap (λ (u : Site). u .offsets) q, ap (λ (u : Site). u .periods) q)
+
+-- The judgement of s, and what it gives.
+module _ (s t : Site) (v : Verdict) (j : (ruling v, t) ≡ withSite (judgeOf s)) where
+  pub stands-refused : (number place : ℕ) → v ≡ Refused number place → false ≡ stands s
+  unfolding stands accepts
+  stands-refused number place e =
+      rw (site-refused (judgeOf s) t number place (sym (ap (λ (u : Verdict). (ruling u, t)) e) ∙ j))
+
+  module _ (e : v ≡ Accepted) where
+    stands-lists : stands s ≡ same (s .offsets) (t .offsets) && same (s .periods) (t .periods)
+    unfolding stands accepts
+    stands-lists =
+        let own = site-accepted (judgeOf s) t (sym (ap (λ (u : Verdict). (ruling u, t)) e) ∙ j) in
+        rw (judged-lists s t own .0, judged-lists s t own .1, own)
+
+    pub stands-offsets : (r : Bool) → r ≡ same (s .offsets) (t .offsets) → not r ≡ true → false ≡ stands s
+    stands-offsets r q n = rw (stands-lists, ← q, not-true r n)
+
+    pub stands-periods : (r u : Bool) → r ≡ same (s .offsets) (t .offsets) → not r ≡ false → u ≡ same (s .periods) (t .periods) → u ≡ stands s
+    stands-periods r u q n p = rw (stands-lists, ← q, not-false r n) p
+
+-- The answers on a site of the right shape.
+module _ (s : Site) (shape : shaped s ≡ true) where
+  pub passes-links : 63 < s .links → false ≡ passesOf s
+  unfolding passesOf formed
+  passes-links l = simp (shape, lt-leb _ _ l)
+
+  module _ (few : s .links ≤ 63) (i : ℕ) (ill : i ≡ firstIll s) where
+    pub passes-ill : i < 64 → false ≡ passesOf s
+    unfolding passesOf formed
+    passes-ill l = rw (shape, le-leb _ _ few, ← ill, lt-leb _ _ l)
+
+    pub passes-stands : (r : Bool) → 64 ≤ i → r ≡ stands s → r ≡ passesOf s
+    unfolding passesOf formed
+    passes-stands r l q = rw (shape, le-leb _ _ few, ← ill, le-leb _ _ l) q
+
+-- A site that passes has 63 links at most.
+pub passes-few : (s : Site) → passesOf s ≡ true → s .links ≤ 63
+unfolding passesOf formed
+passes-few s e =
+    leb-true _ _ (and-eq-true-iff _ _ .0 (and-eq-true-iff (formed s) _ .0 (and-eq-true-iff (shaped s) _ .0 e .1) .0) .0)

@@ -1,0 +1,332 @@
+-- The form of nodes and flows: the tests say what the words say, and a flow within its limits keeps it.
+use Prim.Native.Nat.{ℕ, _+_, _<_, _≤_}
+use mathlib.Core.Path.{_≡_, refl}
+use mathlib.Core.Bool.{true, false, _&&_, _||_, and-false, and-eq-true-iff}
+use mathlib.Core.List.{List}
+use mathlib.Core.Logic.{_⊎_, inl, inr, ⊎-elim, _↔_}
+use lib.Dec.{eqb, ltb, leb}
+use lib.ListN.{length, getD, length-set, List·getD-eq-default}
+use lib.Seq.{getD-set-same, getD-set-other}
+use borrow.Author.Tests.{ltb-false, leb-true, eqb-true, eqb-false, lt-ltb, le-ltb, le-leb, eq-eqb, ne-eqb, not-false}
+use native.Mathlib.Decide.{ℕ-discrete}
+use native.Mathlib.Omega.{arith}
+use Rattle.pinwheel.proofs.Laws.Search.{lt-or-le, first-none}
+use Rattle.site.specs.declared.Site.{Site}
+use Rattle.site.specs.declared.Flow.{Flow}
+use Rattle.site.specs.Sites.{withFields, withFlow}
+use Rattle.site.specs.Tree.{up, depthOf}
+use Rattle.site.specs.Schedule.{used}
+use Rattle.site.specs.Words.{Wellgapped}
+use Rattle.site.proofs.Laws.Tree.{depth-same}
+use Rattle.limits.specs.declared.Node.{Node}
+use Rattle.limits.specs.Limits.{badNode, badFlow, nodeLimits, misplaced, flowLimits}
+use Rattle.limits.specs.Check.{shaped, nodeOf, flowOf, illNode, illFlow, illAt, firstIll, formed}
+use Rattle.limits.specs.Words.{Shape, NodeWithin, NodeGood, NoNode, FlowWithin, FlowGood, NoFlow, LiveFlow, IdleAt, LiveAt, Formed}
+use Rattle.limits.proofs.Laws.Tests.{neither, passed}
+
+-- 5 in words.
+pub node-within : (n : Node) → (badNode n ≡ false) ↔ NodeWithin n
+unfolding badNode
+node-within n = (
+  λ e. let u = neither (eqb (n .capacity) 0) _ e in
+      let v = neither (ltb 65535 (n .capacity)) _ (u .1) in
+      let w = neither (eqb (n .gap) 0) _ (v .1) in
+      record {
+        capacity-some = omega (arith, eqb-false (n .capacity) 0 (u .0));
+        capacity-most = ltb-false _ _ (v .0);
+        gap-some = omega (arith, eqb-false (n .gap) 0 (w .0));
+        gap-most = ltb-false _ _ (w .1);
+      },
+  λ g. simp (
+    ne-eqb (n .capacity) 0 (omega (arith, g .capacity-some)),
+    le-ltb _ _ (g .capacity-most),
+    ne-eqb (n .gap) 0 (omega (arith, g .gap-some)),
+    le-ltb _ _ (g .gap-most),
+  ),
+)
+
+pub flow-within : (f : Flow) → (badFlow f ≡ false) ↔ FlowWithin f
+unfolding badFlow
+flow-within f = (
+  λ e. let u = neither (ltb 63 (f .number)) _ e in
+      let v = neither (eqb (f .rate) 0) _ (u .1) in
+      let w = neither (ltb 255 (f .rate)) _ (v .1) in
+      let x = neither (eqb (f .deadline) 0) _ (w .1) in
+      record {
+        number-most = ltb-false _ _ (u .0);
+        rate-some = omega (arith, eqb-false (f .rate) 0 (v .0));
+        rate-most = ltb-false _ _ (w .0);
+        deadline-some = omega (arith, eqb-false (f .deadline) 0 (x .0));
+        deadline-most = ltb-false _ _ (x .1);
+      },
+  λ g. simp (
+    le-ltb _ _ (g .number-most),
+    ne-eqb (f .rate) 0 (omega (arith, g .rate-some)),
+    le-ltb _ _ (g .rate-most),
+    ne-eqb (f .deadline) 0 (omega (arith, g .deadline-some)),
+    le-ltb _ _ (g .deadline-most),
+  ),
+)
+
+-- What a node has that passes 5, 6 and 8 after k others with these parents.
+pub node-good : (parents : List ℕ) (k : ℕ) (n : Node) → (nodeLimits parents k n ≡ 0) ↔ NodeGood parents k n
+unfolding nodeLimits
+node-good parents k n = (
+  λ e. let a = passed (badNode n) 5 _ (omega arith) e in
+      let b = passed (ltb k (n .parent)) 6 _ (omega arith) (a .1) in
+      let c = passed (ltb 8 (depthOf parents (n .parent) + 1)) 8 0 (omega arith) (b .1) in
+      record { within = node-within n .0 (a .0); parent-below = ltb-false _ _ (b .0); depth-most = ltb-false _ _ (c .0) },
+  λ g. simp (node-within n .1 (g .within), le-ltb _ _ (g .parent-below), le-ltb _ _ (g .depth-most)),
+)
+
+-- What a flow has that passes 5 and 6.
+pub flow-good : (links next : ℕ) (f : Flow) → (flowLimits links next f ≡ 0) ↔ FlowGood links next f
+unfolding flowLimits misplaced
+flow-good links next f = (
+  λ e. let a = passed (badFlow f) 5 _ (omega arith) e in
+      let b = passed (eqb (f .entry) 0 || (ltb links (f .entry) || ltb (f .number) next)) 6 0 (omega arith) (a .1) in
+      let c = neither (eqb (f .entry) 0) _ (b .0) in
+      let d = neither (ltb links (f .entry)) _ (c .1) in
+      record {
+        within = flow-within f .0 (a .0);
+        entry-some = omega (arith, eqb-false (f .entry) 0 (c .0));
+        entry-most = ltb-false _ _ (d .0);
+        number-least = ltb-false _ _ (d .1);
+      },
+  λ g. simp (
+    flow-within f .1 (g .within),
+    ne-eqb (f .entry) 0 (omega (arith, g .entry-some)),
+    le-ltb _ _ (g .entry-most),
+    le-ltb _ _ (g .number-least),
+  ),
+)
+
+-- Every list has its length.
+shape-when : (s : Site) → (shaped s ≡ true) ↔ Shape s
+unfolding shaped
+shape-when s = (shape, holds)
+  where
+    shape : shaped s ≡ true → Shape s
+    shape e =
+        let a = and-eq-true-iff (eqb (length (s .parents)) 63) _ .0 e in
+        let b = and-eq-true-iff (eqb (length (s .capacities)) 63) _ .0 (a .1) in
+        let c = and-eq-true-iff (eqb (length (s .gaps)) 63) _ .0 (b .1) in
+        let d = and-eq-true-iff (eqb (length (s .offsets)) 63) _ .0 (c .1) in
+        let u = and-eq-true-iff (eqb (length (s .periods)) 63) _ .0 (d .1) in
+        let v = and-eq-true-iff (eqb (length (s .states)) 64) _ .0 (u .1) in
+        let w = and-eq-true-iff (eqb (length (s .entries)) 64) _ .0 (v .1) in
+        let x = and-eq-true-iff (eqb (length (s .rates)) 64) _ .0 (w .1) in
+        record {
+          parents = eqb-true _ _ (a .0);
+          capacities = eqb-true _ _ (b .0);
+          gaps = eqb-true _ _ (c .0);
+          offsets = eqb-true _ _ (d .0);
+          periods = eqb-true _ _ (u .0);
+          states = eqb-true _ _ (v .0);
+          entries = eqb-true _ _ (w .0);
+          rates = eqb-true _ _ (x .0);
+          deadlines = eqb-true _ _ (x .1);
+        }
+
+    holds : Shape s → shaped s ≡ true
+    holds g =
+        simp (
+          eq-eqb _ _ (g .parents),
+          eq-eqb _ _ (g .capacities),
+          eq-eqb _ _ (g .gaps),
+          eq-eqb _ _ (g .offsets),
+          eq-eqb _ _ (g .periods),
+          eq-eqb _ _ (g .states),
+          eq-eqb _ _ (g .entries),
+          eq-eqb _ _ (g .rates),
+          eq-eqb _ _ (g .deadlines),
+        )
+
+module _ (s : Site) where
+  -- What check 14 asks of an index below the number of links, and of one from there on.
+  node-in : (i : ℕ) → i < s .links → (illNode s i ≡ false) ↔ NodeGood (s .parents) i (nodeOf s i)
+  unfolding illNode
+  node-in i l = (
+    λ e. node-good _ _ _ .0 (eqb-true _ _ (not-false _ (rw (lt-ltb i (s .links) l) at e))),
+    λ g. simp (lt-ltb i (s .links) l, eq-eqb _ _ (node-good (s .parents) i (nodeOf s i) .1 g)),
+  )
+
+  node-out : (i : ℕ) → s .links ≤ i → (illNode s i ≡ false) ↔ NoNode (nodeOf s i)
+  unfolding illNode nodeOf
+  node-out i l = (
+    λ e. none (not-false _ (rw (le-ltb i (s .links) l) at e)),
+    λ g. simp (le-ltb i (s .links) l, eq-eqb _ _ (g .parent), eq-eqb _ _ (g .capacity), eq-eqb _ _ (g .gap)),
+  )
+    where
+      none : eqb (getD (s .parents) i 0) 0 && (eqb (getD (s .capacities) i 0) 0 && eqb (getD (s .gaps) i 0) 0) ≡ true → NoNode (nodeOf s i)
+      none e =
+          let a = and-eq-true-iff (eqb (getD (s .parents) i 0) 0) _ .0 e in
+          let b = and-eq-true-iff (eqb (getD (s .capacities) i 0) 0) _ .0 (a .1) in
+          record { parent = eqb-true _ _ (a .0); capacity = eqb-true _ _ (b .0); gap = eqb-true _ _ (b .1) }
+
+  -- What it asks of a flow number.
+  flow-fits : (n : ℕ) → (illFlow s n ≡ false) ↔ (IdleAt s n ⊎ LiveAt s n)
+  unfolding illFlow flowOf
+  flow-fits n = (fits, fine)
+    where
+      fits : illFlow s n ≡ false → IdleAt s n ⊎ LiveAt s n
+      fits e =
+          elim (ℕ-discrete (getD (s .states) n 0) 0) [
+            | yes q ↦
+                let a = and-eq-true-iff (eqb (getD (s .entries) n 0) 0) (eqb (getD (s .rates) n 0) 0 && eqb (getD (s .deadlines) n 0) 0)
+                .0 (not-false _ (rw (eq-eqb _ _ q) at e)) in
+                let b = and-eq-true-iff (eqb (getD (s .rates) n 0) 0) _ .0 (a .1) in
+                inl (record { idle = q; entry = eqb-true _ _ (a .0); rate = eqb-true _ _ (b .0); deadline = eqb-true _ _ (b .1) })
+            | no m ↦
+                let a = and-eq-true-iff (eqb (getD (s .states) n 0) 1) (eqb (flowLimits (s .links) 0 (flowOf s n)) 0)
+                .0 (not-false _ (rw (ne-eqb _ _ m) at e)) in
+                inr (record { live = eqb-true _ _ (a .0); good = flow-good (s .links) 0 (flowOf s n) .0 (eqb-true _ _ (a .1)) })
+          ]
+
+      fine : IdleAt s n ⊎ LiveAt s n → illFlow s n ≡ false
+      fine (inl w) = simp (eq-eqb _ _ (w .idle), eq-eqb _ _ (w .entry), eq-eqb _ _ (w .rate), eq-eqb _ _ (w .deadline))
+      fine (inr w) = simp (w .live, eq-eqb _ _ (flow-good (s .links) 0 (flowOf s n) .1 (w .good)))
+
+-- Node and flow of one index together.
+module _ (s : Site) (n : ℕ) where
+  flow-well : illAt s n ≡ false → illFlow s n ≡ false
+  unfolding illAt
+  flow-well e = neither (ltb n 63 && illNode s n) _ e .1
+
+  node-well : n < 63 → illAt s n ≡ false → illNode s n ≡ false
+  unfolding illAt
+  node-well l e = rw (lt-ltb n 63 l) at (neither (ltb n 63 && illNode s n) _ e .0)
+
+  both-well : illNode s n ≡ false → illFlow s n ≡ false → illAt s n ≡ false
+  unfolding illAt
+  both-well a b = simp (a, b, and-false)
+
+-- Check 14's tests of form.
+pub formed-when : (s : Site) → (shaped s && formed s ≡ true) ↔ Formed s
+unfolding formed firstIll nodeOf flowOf
+formed-when s = (forms, holds)
+  where
+    forms : shaped s && formed s ≡ true → Formed s
+    forms e =
+        let a = and-eq-true-iff (shaped s) _ .0 e in
+        let b = and-eq-true-iff (leb (s .links) 63) _ .0 (a .1) in
+        let none : (n : ℕ) → n < 64 → illAt s n ≡ false = first-none (illAt s) 64 .0 (leb-true _ _ (b .1)) in
+        let g : Shape s = shape-when s .0 (a .0) in
+        let few : s .links ≤ 63 = leb-true _ _ (b .0) in
+        let sound : (i : ℕ) → i < 63 → illNode s i ≡ false = λ i l. node-well s i l (none i (omega arith)) in
+        record {
+          shape = g;
+          few = few;
+          nodes = λ i l. node-in s i l .0 (sound i (omega arith));
+          spare =
+              λ i l. ⊎-elim (λ m. node-out s i l .0 (sound i m))
+              (λ m. record {
+                parent = List·getD-eq-default (s .parents) 0 (omega arith);
+                capacity = List·getD-eq-default (s .capacities) 0 (omega arith);
+                gap = List·getD-eq-default (s .gaps) 0 (omega arith);
+              }) (lt-or-le i 63);
+          flows =
+              λ n. ⊎-elim (λ m. flow-fits s n .0 (flow-well s n (none n m)))
+              (λ m. inl (record {
+                idle = List·getD-eq-default (s .states) 0 (omega arith);
+                entry = List·getD-eq-default (s .entries) 0 (omega arith);
+                rate = List·getD-eq-default (s .rates) 0 (omega arith);
+                deadline = List·getD-eq-default (s .deadlines) 0 (omega arith);
+              })) (lt-or-le n 64);
+        }
+
+    holds : Formed s → shaped s && formed s ≡ true
+    holds g =
+        simp (
+          shape-when s .1 (g .shape),
+          le-leb _ _ (g .few),
+          le-leb _ _ (first-none (illAt s) 64 .1
+              (λ n l. both-well s n
+              (⊎-elim (λ m. node-in s n m .1 (g .nodes n m)) (λ m. node-out s n m .1 (g .spare n m)) (lt-or-le n (s .links)))
+              (flow-fits s n .1 (g .flows n)))),
+        )
+
+-- The wanted gaps are as the schedule needs them.
+pub formed-gapped : (s : Site) → Formed s → Wellgapped s
+unfolding used nodeOf
+formed-gapped s g = record { limits = λ i l. let f = g .nodes i (omega arith) in (f .within .gap-some, f .within .gap-most) }
+
+-- No flow is on a site without links.
+pub linkless-idle : (s : Site) → Formed s → s .links ≡ 0 → (n : ℕ) → IdleAt s n
+linkless-idle s g z n = ⊎-elim (λ f. f) (λ f. absurd (omega (arith, f .good .entry-some, f .good .entry-most))) (g .flows n)
+
+-- The limits of a node look at the parents of the k nodes before it alone.
+pub good-same : (p q : List ℕ) (k : ℕ) (n : Node) → ((m : ℕ) → m ≤ k → up p m ≡ up q m) → NodeGood q k n → NodeGood p k n
+good-same p q k n same w = record {
+  within = w .within;
+  parent-below = w .parent-below;
+  depth-most = rw (depth-same p q (n .parent) (λ m l. same m (omega (arith, w .parent-below)))) (w .depth-most);
+}
+
+-- A flow within its limits is so on a site with more links, and from every number on that is not above its own.
+pub good-wider : (links more next least : ℕ) (f : Flow) → links ≤ more → least ≤ f .number → FlowGood links next f → FlowGood more least f
+good-wider links more next least f l h w = record {
+  within = w .within;
+  entry-some = w .entry-some;
+  entry-most = omega (arith, w .entry-most);
+  number-least = h;
+}
+
+-- Another flow, or none, at one number: its fields stand there, and the other numbers stay as they are.
+module _ (s : Site) (state : ℕ) (f : Flow) where
+  abbrev changed : Site
+  changed = withFields s (f .number) state (f .entry) (f .rate) (f .deadline)
+
+  pub flow-new : Shape s → f .number < 64 → (getD (changed .states) (f .number) 0 ≡ state) × (flowOf changed (f .number) ≡ f)
+  unfolding flowOf
+  flow-new long l = (
+    getD-set-same (s .states) (f .number) state 0 (omega (arith, long .states)),
+    λ i. record {
+      number = f .number;
+      entry = getD-set-same (s .entries) (f .number) (f .entry) 0 (omega (arith, long .entries)) i;
+      rate = getD-set-same (s .rates) (f .number) (f .rate) 0 (omega (arith, long .rates)) i;
+      deadline = getD-set-same (s .deadlines) (f .number) (f .deadline) 0 (omega (arith, long .deadlines)) i;
+    },
+  )
+
+  pub flow-old : (n : ℕ) → (n ≡ f .number → ⊥) → (getD (changed .states) n 0 ≡ getD (s .states) n 0) × (flowOf changed n ≡ flowOf s n)
+  unfolding flowOf
+  flow-old n m = (
+    getD-set-other (s .states) (f .number) n state 0 m,
+    λ i. record {
+      number = n;
+      entry = getD-set-other (s .entries) (f .number) n (f .entry) 0 m i;
+      rate = getD-set-other (s .rates) (f .number) n (f .rate) 0 m i;
+      deadline = getD-set-other (s .deadlines) (f .number) n (f .deadline) 0 m i;
+    },
+  )
+
+  -- So a site in form stays in form.
+  pub fields-formed : Formed s → f .number < 64 → NoFlow state f ⊎ LiveFlow (s .links) state f → Formed changed
+  unfolding nodeOf
+  fields-formed g l w = record {
+    shape = record {
+      parents = g .shape .parents;
+      capacities = g .shape .capacities;
+      gaps = g .shape .gaps;
+      offsets = g .shape .offsets;
+      periods = g .shape .periods;
+      states = simp length-set (g .shape .states);
+      entries = simp length-set (g .shape .entries);
+      rates = simp length-set (g .shape .rates);
+      deadlines = simp length-set (g .shape .deadlines);
+    };
+    few = g .few;
+    nodes = g .nodes;
+    spare = g .spare;
+    flows =
+        λ n. elim (ℕ-discrete n (f .number)) [
+          | yes e ↦ let h = flow-new (g .shape) l in rw (e, h .0, h .1) w
+          | no m ↦ let h = flow-old n m in rw (h .0, h .1) (g .flows n)
+        ];
+  }
+
+-- A live flow more.
+pub flow-formed : (s : Site) (f : Flow) → Formed s → FlowGood (s .links) 0 f → Formed (withFlow s f)
+unfolding withFlow
+flow-formed s f g w = fields-formed s 1 f g (omega (arith, w .within .number-most)) (inr (record { live = refl; good = w }))

@@ -1,0 +1,32 @@
+-- The tests of 14 one after the other. The shape of the site is right by its type.
+use borrow.Author.Needs.{needs}
+use mathlib.Core.Path.{_≡_}
+use mathlib.Core.Bool.{true}
+use native.Mathlib.Omega.{arith}
+use Rattle.limits.specs.Check.{shaped}
+use Rattle.limits.proofs.Laws.Check.{shaped-site, passes-links, passes-ill, passes-stands}
+use Rattle.limits.proofs.check.passes.Statement.{statement}
+use Rattle.limits.proofs.check.passes.Tie as tie
+
+shape : (c : tie.Else1) → shaped (c .before .before .args .site) ≡ true
+shape c = shaped-site _ _ (c .before .before .good .0)
+
+returns : tie.Need-returns
+returns c = passes-links _ (shaped-site _ _ (c .before .before .good .0)) (omega arith)
+
+first-ill-requires : tie.Need-first-ill-requires
+first-ill-requires c κs = search needs
+
+returns-2 : tie.Need-returns-2
+returns-2 c = passes-ill _ (shape (c .before .before)) (omega arith) _ (c .before .first-ill .ensures) (c .if2 .taken)
+
+judged-as-it-is-requires : tie.Need-judged-as-it-is-requires
+judged-as-it-is-requires c κs = search needs
+
+returns-3 : tie.Need-returns-3
+returns-3 c =
+    let n = c .before in
+    passes-stands _ (shape (n .before .before)) (omega arith) _ (n .before .first-ill .ensures) _ (n .if2 .left) (c .judged-as-it-is .ensures)
+
+pub passes-spec : {M : Type 1} → statement M
+passes-spec = tie.close (tie.spec returns first-ill-requires returns-2 judged-as-it-is-requires returns-3)

@@ -1,0 +1,136 @@
+// Check 14: whether a site is one that a reading can give.
+use crate::Node;
+use crate::flow_limits;
+use crate::node_limits;
+use site::Flow;
+use site::Site;
+use site::Verdict;
+ghost use mathlib.Core.Path.{_≡_};
+ghost use Prim.Native.Nat.{_<_};
+ghost use Rattle.limits.specs.Check.{illNode, illFlow, illAt, firstIll, same, stands, passesOf};
+
+// The entries at index i are those of no node within its limits or, past the last link, not all 0.
+fn ill_node(site: Site, i: usize) -> bool
+    requires { ⌜ i < 63 ⌝ }
+    ensures { λ r. ⌜ r ≡ illNode site i ⌝ }
+{
+    let node = Node {
+        parent: site.parents[i],
+        capacity: site.capacities[i],
+        gap: site.gaps[i],
+    };
+    if i < site.links as usize {
+        let parents = site.parents;
+        return node_limits(parents, i as u8, node) != 0;
+    }
+    if node.parent != 0 {
+        return true;
+    }
+    if node.capacity != 0 {
+        return true;
+    }
+    node.gap != 0
+}
+
+// The entries of number n are neither those of a live flow within its limits nor all 0.
+fn ill_flow(site: Site, n: usize) -> bool
+    requires { ⌜ n < 64 ⌝ }
+    ensures { λ r. ⌜ r ≡ illFlow site n ⌝ }
+{
+    let flow = Flow {
+        number: n as u8,
+        entry: site.entries[n],
+        rate: site.rates[n],
+        deadline: site.deadlines[n],
+    };
+    let state = site.states[n];
+    if state == 1 {
+        return flow_limits(site.links, 0, flow) != 0;
+    }
+    if state != 0 {
+        return true;
+    }
+    if flow.entry != 0 {
+        return true;
+    }
+    if flow.rate != 0 {
+        return true;
+    }
+    flow.deadline != 0
+}
+
+// The node or the flow at index n is not in form; there are 63 nodes and 64 flows.
+fn ill_at(site: Site, n: usize) -> bool
+    requires { ⌜ n < 64 ⌝ }
+    ensures { λ r. ⌜ r ≡ illAt site n ⌝ }
+{
+    if 63 <= n {
+        return ill_flow(site, n);
+    }
+    if ill_node(site, n) {
+        return true;
+    }
+    ill_flow(site, n)
+}
+
+// The first index with a node or a flow that is not in form, or 64.
+fn first_ill(site: Site) -> usize
+    ensures { λ r. ⌜ r ≡ firstIll site ⌝ }
+{
+    let mut n = 0;
+    while n < 64 {
+        if ill_at(site, n) {
+            return n;
+        }
+        n += 1;
+    }
+    n
+}
+
+fn lists_agree(a: &[u16], b: &[u16]) -> bool
+    ensures { λ r. ⌜ r ≡ same (now (a .entry)) (now (b .entry)) ⌝ }
+{
+    let n = a.len();
+    if b.len() != n {
+        return false;
+    }
+    let mut i = 0;
+    while i < n {
+        if a[i] != b[i] {
+            return false;
+        }
+        i += 1;
+    }
+    true
+}
+
+// 11, 12 and 13 let the nodes and flows pass, and the schedule is theirs.
+fn judged_as_it_is(site: Site) -> bool
+    ensures { λ r. ⌜ r ≡ stands site ⌝ }
+{
+    let judged = site::judge(site);
+    let verdict = judged.verdict;
+    match verdict {
+        Verdict::Accepted => {
+            let own = judged.site;
+            if !lists_agree(&site.offsets, &own.offsets) {
+                return false;
+            }
+            lists_agree(&site.periods, &own.periods)
+        }
+        Verdict::Refused(_number, _place) => false,
+    }
+}
+
+// Whether the site is empty or one that some plan bytes read to: every entry of every list is looked at.
+pub fn passes(site: Site) -> bool
+    ensures { λ r. ⌜ r ≡ passesOf site ⌝ }
+{
+    if 63 < site.links {
+        return false;
+    }
+    if first_ill(site) < 64 {
+        return false;
+    }
+    judged_as_it_is(site)
+}

@@ -1,0 +1,102 @@
+-- 01, Plan bytes, and the checks of a reading in their order: what any bytes read to.
+use Prim.Native.Nat.{ℕ, zero, suc, _+_}
+use mathlib.Core.Bool.{cond}
+use mathlib.Core.List.{List}
+use lib.Dec.{eqb, ltb, leb}
+use lib.ListN.{length, getD, set}
+use Rattle.pinwheel.specs.Outcome.{Outcome, accepted, refused}
+use Rattle.site.specs.declared.Site.{Site}
+use Rattle.site.specs.declared.Flow.{Flow}
+use Rattle.site.specs.Sites.{emptySite, withFlow}
+use Rattle.site.specs.Judge.{judgeOf}
+use Rattle.limits.specs.declared.Node.{Node}
+use Rattle.reader.specs.declared.Draft.{Draft}
+use Rattle.limits.specs.Limits.{nodeLimits, flowLimits}
+use Rattle.format.specs.Bytes.{numberAt}
+use Rattle.format.specs.Commands.{sizeOf}
+
+-- 01, command 01, NODE, at index `at`: a byte for the parent, two for the capacity, two for the wanted gap.
+unfoldable pub nodeAt : List ℕ → ℕ → Node
+nodeAt bytes at = record { parent = numberAt 1 bytes (at + 1); capacity = numberAt 2 bytes (at + 2); gap = numberAt 2 bytes (at + 4) }
+
+-- 01, command 02, FLOW: a byte each for number, entry node and rate, two for the deadline.
+unfoldable pub flowAt : List ℕ → ℕ → Flow
+flowAt bytes at = record {
+  number = numberAt 1 bytes (at + 1);
+  entry = numberAt 1 bytes (at + 2);
+  rate = numberAt 1 bytes (at + 3);
+  deadline = numberAt 2 bytes (at + 4);
+}
+
+-- The checks of a NODE from 4 on: 4, 7, then 5, 6, 8. A FLOW has been read just when `next` is above 0.
+unfoldable pub nodeFault : Draft → Node → ℕ
+nodeFault d n = cond (ltb 0 (d .next)) 4 (cond (leb 63 (d .site .links)) 7 (nodeLimits (d .site .parents) (d .site .links) n))
+
+-- Those of a FLOW: 5, 6.
+unfoldable pub flowFault : Draft → Flow → ℕ
+flowFault d f = flowLimits (d .site .links) (d .next) f
+
+-- 01, the order of a command's checks: the number of the first that the one at index `at` fails, 0 where it fails none. 3 where a plan has no such
+-- command, 2 where not all of its bytes are there, and then those of a NODE or of a FLOW.
+unfoldable pub fault : List ℕ → ℕ → Draft → ℕ
+fault bytes at d =
+    cond (eqb (sizeOf (getD bytes at 0)) 0) 3
+    (cond (ltb (length bytes) (at + sizeOf (getD bytes at 0))) 2
+    (cond (eqb (getD bytes at 0) 1) (nodeFault d (nodeAt bytes at)) (flowFault d (flowAt bytes at))))
+
+-- 01: nodes are numbered as they come. What is read so far, with one node more.
+unfoldable pub withNode : Site → Node → Site
+withNode s n = record {
+  links = s .links + 1;
+  parents = set (s .parents) (s .links) (n .parent);
+  capacities = set (s .capacities) (s .links) (n .capacity);
+  gaps = set (s .gaps) (s .links) (n .gap);
+  offsets = s .offsets;
+  periods = s .periods;
+  states = s .states;
+  entries = s .entries;
+  rates = s .rates;
+  deadlines = s .deadlines;
+}
+
+unfoldable pub nodeAdded : Draft → Node → Draft
+nodeAdded d n = record { site = withNode (d .site) n; next = d .next }
+
+-- 01: flow numbers rise, so the next one is above this one.
+unfoldable pub flowAdded : Draft → Flow → Draft
+flowAdded d f = record { site = withFlow (d .site) f; next = f .number + 1 }
+
+-- What is read once a command has passed its checks.
+unfoldable pub after : List ℕ → ℕ → Draft → Draft
+after bytes at d = cond (eqb (getD bytes at 0) 1) (nodeAdded d (nodeAt bytes at)) (flowAdded d (flowAt bytes at))
+
+-- 01, the checks of END, 9 and 10: END at index `at` of so many bytes.
+unfoldable pub endOf : ℕ → ℕ → Site → Outcome Site
+endOf size at s = cond (eqb (s .links) 0) (refused 9 at) (cond (ltb (at + 1) size) (refused 10 (at + 1)) (accepted s))
+
+-- One command after the other from index `at` on. Where the bytes end without END: 2, at their length. The first argument is how many
+-- commands are allowed; the number of bytes is always enough.
+unfoldable pub decodeFrom : ℕ → List ℕ → ℕ → Draft → Outcome Site
+decodeFrom zero bytes at d = refused 2 (length bytes)
+decodeFrom (suc steps) bytes at d =
+    cond (ltb at (length bytes))
+    (cond (eqb (getD bytes at 0) 255) (endOf (length bytes) at (d .site))
+    (cond (eqb (fault bytes at d) 0) (decodeFrom steps bytes (at + sizeOf (getD bytes at 0)) (after bytes at d)) (refused (fault bytes at d) at)))
+    (refused 2 (length bytes))
+
+-- Before the first command.
+abbrev pub blank : Draft
+blank = record { site = emptySite; next = 0 }
+
+-- The form of the bytes: a refusal, or the nodes and flows, with no schedule yet.
+unfoldable pub decode : List ℕ → Outcome Site
+decode bytes = decodeFrom (length bytes) bytes 0 blank
+
+-- After END come 11, 12 and 13.
+unfoldable pub judgeForm : Outcome Site → Outcome Site
+judgeForm (accepted s) = judgeOf s
+judgeForm (refused number place) = refused number place
+
+-- What a plan's bytes read to: a site, or a refusal.
+unfoldable pub readOf : List ℕ → Outcome Site
+readOf bytes = judgeForm (decode bytes)

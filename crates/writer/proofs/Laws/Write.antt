@@ -1,0 +1,248 @@
+-- What the writers store, byte after byte and item after item.
+use Prim.Native.Nat.{ℕ, zero, suc, _+_, _-_, _*_, _≤_, _<_}
+use mathlib.Core.Path.{_≡_, refl, sym, _∙_, ap}
+use mathlib.Core.Bool.{Bool, true, false, not, cond}
+use mathlib.Core.List.{List, [], _∷_, _++_}
+use lib.Dec.{eqb}
+use lib.ListN.{length, getD, set, drop, length-append, drop-of-length-le}
+use lib.Seq.{sets, length-sets, sets-eq, drop-cons}
+use borrow.Author.Tests.{lt-ltb, le-ltb, eq-eqb, ne-eqb, not-true, not-false}
+use native.Mathlib.Nat.{zero-add, mul-suc}
+use native.Mathlib.Numerals.{add-one}
+use native.Mathlib.Omega.{arith}
+use Rattle.pinwheel.specs.Outcome.{Outcome, accepted, refused}
+use Rattle.site.specs.declared.Site.{Site}
+use Rattle.site.specs.Sites.{live}
+use Rattle.format.specs.Bytes.{bytesOf}
+use Rattle.format.specs.Commands.{sizeOf, linkSize}
+use Rattle.limits.specs.Check.{passesOf}
+use Rattle.writer.specs.Write.{nodeBytes, flowBytes, linkBytes, joined, flowIfLive, commandBytes, planBytes, scheduleBytes, written, siteFault, writtenIf}
+use Rattle.writer.proofs.Laws.Items.{joined-next}
+use Rattle.limits.proofs.Laws.Check.{passes-few}
+
+sets-append : (d : List ℕ) (at : ℕ) (xs ys : List ℕ) → sets d at (xs ++ ys) ≡ sets (sets d at xs) (at + length xs) ys
+sets-append d at [] ys = let e : at + 0 ≡ at = omega arith in rw e
+sets-append d at (x ∷ xs) ys =
+    let e : at + suc (length xs) ≡ suc at + length xs = omega arith in
+    rw e (sets-append (set d at x) (suc at) xs ys)
+
+-- n items are to be stored from `start` on, and those below i have been stored up to index `at`.
+pub record Passed (bytes : ℕ → List ℕ) (n start i at : ℕ) : Type 0 where
+  pub most : i ≤ n
+  pub place : at + length (joined bytes (n - i) i) ≡ start + length (joined bytes n 0)
+
+-- No item is left.
+none : (bytes : ℕ → List ℕ) (n i : ℕ) → n ≤ i → joined bytes (n - i) i ≡ []
+unfolding joined
+none bytes n i l = let e : n - i ≡ 0 = omega arith in rw e
+
+module _ (bytes : ℕ → List ℕ) (n start : ℕ) where
+  pub passed-start : Passed bytes n start 0 start
+  passed-start = let e : n - 0 ≡ n = omega arith in record { most = omega arith; place = rw e }
+
+  module _ (i at : ℕ) (p : Passed bytes n start i at) where
+    passed-next : i < n → at + length (bytes i) + length (joined bytes (n - (i + 1)) (i + 1)) ≡ start + length (joined bytes n 0)
+    passed-next l = omega (arith, p .place, ap length (joined-next bytes n i l) ∙ length-append (bytes i) (joined bytes (n - (i + 1)) (i + 1)))
+
+    -- The next item fits where all fit.
+    pub passed-room : i < n → at + length (bytes i) ≤ start + length (joined bytes n 0)
+    passed-room l = omega (arith, passed-next l)
+
+    pub passed-more : (m : ℕ) → i < n → m ≡ at + length (bytes i) → Passed bytes n start (i + 1) m
+    passed-more m l e = record { most = omega arith; place = rw e (passed-next l) }
+
+    pub passed-end : n ≤ i → at ≡ start + length (joined bytes n 0)
+    passed-end l = omega (arith, p .place, ap length (none bytes n i l))
+
+-- And `out` is what the list d has become.
+pub record Stored (bytes : ℕ → List ℕ) (n start : ℕ) (d : List ℕ) (i at : ℕ) (out : List ℕ) : Type 0 where
+  pub passed : Passed bytes n start i at
+  pub long : length out ≡ length d
+  pub stores : sets out at (joined bytes (n - i) i) ≡ sets d start (joined bytes n 0)
+
+module _ (bytes : ℕ → List ℕ) (n start : ℕ) (d : List ℕ) where
+  pub stored-start : Stored bytes n start d 0 start d
+  stored-start = let e : n - 0 ≡ n = omega arith in record { passed = passed-start bytes n start; long = refl; stores = rw e }
+
+  module _ (i at : ℕ) (out : List ℕ) (s : Stored bytes n start d i at out) where
+    pub stored-more : (b new : List ℕ) (m : ℕ) → i < n → b ≡ bytes i → new ≡ sets out at b → m ≡ at + length b
+        → Stored bytes n start d (i + 1) m new
+    stored-more b new m l e q h = record {
+      passed = passed-more bytes n start i at (s .passed) m l (h ∙ ap (λ (x : List ℕ). at + length x) e);
+      long = rw q (length-sets out at b ∙ s .long);
+      stores = rw (q, h, e, ← sets-append out at (bytes i) (joined bytes (n - (i + 1)) (i + 1)), ← joined-next bytes n i l) (s .stores);
+    }
+
+    -- The next item fits where all fit.
+    pub stored-room : (b : List ℕ) → i < n → b ≡ bytes i → at + length b ≤ start + length (joined bytes n 0)
+    stored-room b l e = rw e (passed-room bytes n start i at (s .passed) l)
+
+    pub stored-end : n ≤ i → (out ≡ sets d start (joined bytes n 0)) × (at ≡ start + length (joined bytes n 0))
+    stored-end l = (ap (sets out at) (sym (none bytes n i l)) ∙ s .stores, passed-end bytes n start i at (s .passed) l)
+
+-- The entries of a list, one by one.
+abbrev pub entry : List ℕ → ℕ → List ℕ
+entry xs i = getD xs i 0 ∷ []
+
+entries-from : (xs : List ℕ) (r i : ℕ) → i + r ≡ length xs → joined (entry xs) r i ≡ drop i xs
+unfolding joined
+entries-from xs zero i e = let l : length xs ≤ i = omega arith in sym (drop-of-length-le xs l)
+entries-from xs (suc r) i e = rw (entries-from xs r (i + 1) (omega arith), drop-cons xs i 0 (omega arith), add-one)
+
+pub entries : (xs : List ℕ) (n : ℕ) → length xs ≡ n → joined (entry xs) n 0 ≡ xs
+entries xs n e = entries-from xs n 0 (omega arith)
+
+-- Each command takes the bytes of its size.
+pub node-size : (s : Site) (i : ℕ) → length (nodeBytes s i) ≡ sizeOf 1
+unfolding nodeBytes bytesOf sizeOf
+node-size s i = refl
+
+pub flow-size : (s : Site) (n : ℕ) → length (flowBytes s n) ≡ sizeOf 2
+unfolding flowBytes bytesOf sizeOf
+flow-size s n = refl
+
+pub link-size : (offsets periods : List ℕ) (i : ℕ) → length (linkBytes offsets periods i) ≡ linkSize
+unfolding linkBytes bytesOf linkSize
+link-size offsets periods i = refl
+
+-- The bytes of a flow where it is live; a number that is not has none.
+module _ (s : Site) (n : ℕ) where
+  pub live-bytes : getD (s .states) n 0 ≡ 1 → flowBytes s n ≡ flowIfLive s n
+  unfolding flowIfLive live
+  live-bytes e = simp e
+
+  pub idle-bytes : (getD (s .states) n 0 ≡ 1 → ⊥) → [] ≡ flowIfLive s n
+  unfolding flowIfLive live
+  idle-bytes e = simp (ne-eqb _ _ e)
+
+  pub live-size : getD (s .states) n 0 ≡ 1 → length (flowIfLive s n) ≡ sizeOf 2
+  live-size e = sym (ap length (live-bytes e)) ∙ flow-size s n
+
+  module _ (start at : ℕ) (p : Passed (flowIfLive s) 64 start n at) (l : n < 64) where
+    -- A live flow fits where all fit.
+    pub live-room : getD (s .states) n 0 ≡ 1 → at + sizeOf 2 ≤ start + length (joined (flowIfLive s) 64 0)
+    live-room e = omega (arith, passed-room (flowIfLive s) 64 start n at p l, live-size e)
+
+    pub passed-live : (m : ℕ) → getD (s .states) n 0 ≡ 1 → m ≡ at + sizeOf 2 → Passed (flowIfLive s) 64 start (n + 1) m
+    passed-live m e q = passed-more (flowIfLive s) 64 start n at p m l (omega (arith, q, live-size e))
+
+    pub passed-idle : (m : ℕ) → (getD (s .states) n 0 ≡ 1 → ⊥) → m ≡ at → Passed (flowIfLive s) 64 start (n + 1) m
+    passed-idle m e q = passed-more (flowIfLive s) 64 start n at p m l (omega (arith, q, ap length (idle-bytes e)))
+
+  flow-few : length (flowIfLive s n) ≤ 6
+  unfolding flowIfLive flowBytes bytesOf
+  flow-few = go (live s n)
+    where
+      go : (t : Bool) → length (cond t (flowBytes s n) []) ≤ 6
+      go true = omega arith
+      go false = omega arith
+
+flows-from : (s : Site) (r n : ℕ) → length (joined (flowIfLive s) r n) ≤ 6 * r
+unfolding joined
+flows-from s zero n = omega arith
+flows-from s (suc r) n =
+    omega (arith, length-append (flowIfLive s n) (joined (flowIfLive s) r (n + 1)), flow-few s n, flows-from s r (n + 1))
+
+-- So the flows take 384 bytes at most.
+pub flows-few : (s : Site) → length (joined (flowIfLive s) 64 0) ≤ 384
+flows-few s = flows-from s 64 0
+
+-- Items of one size.
+sized-each : (bytes : ℕ → List ℕ) (size : ℕ) → ((i : ℕ) → length (bytes i) ≡ size) → (r i : ℕ) → length (joined bytes r i) ≡ size * r
+unfolding joined
+sized-each bytes size h zero i = omega arith
+sized-each bytes size h (suc r) i =
+    rw mul-suc (omega (arith, length-append (bytes i) (joined bytes r (i + 1)), h i, sized-each bytes size h r (i + 1)))
+
+-- A writer's answers: the slice is too short, or all bytes are stored from its start on.
+module _ (bytes out : List ℕ) (n : ℕ) (size : n ≡ length bytes) where
+  pub written-short : length out < n → (refused 1 0, out) ≡ written bytes out
+  unfolding written
+  written-short l = simp (lt-ltb (length out) (length bytes) (omega arith))
+
+  pub written-all : (new : List ℕ) → n ≤ length out → new ≡ sets out 0 bytes → (accepted n, new) ≡ written bytes out
+  unfolding written
+  written-all new l q =
+      rw (q, size, le-ltb (length out) (length bytes) (omega arith), sets-eq bytes out 0 (omega arith), zero-add (length bytes))
+
+-- A plan: nodes, flows, FF.
+module _ (s : Site) where
+  abbrev nodes : List ℕ
+  nodes = joined (nodeBytes s) (s .links) 0
+
+  abbrev flows : List ℕ
+  flows = joined (flowIfLive s) 64 0
+
+  -- m stands for the size of a NODE.
+  module _ (m : ℕ) (is : m ≡ sizeOf 1) where
+    pub nodes-size : m * s .links ≡ length nodes
+    nodes-size = rw is (sym (sized-each (nodeBytes s) (sizeOf 1) (node-size s) (s .links) 0))
+
+    pub nodes-few : s .links ≤ 63 → m * s .links ≤ 378
+    unfolding sizeOf
+    nodes-few few = rw is (omega arith)
+
+    pub plan-size : (f : ℕ) → f ≡ length flows → m * s .links + f + 1 ≡ length (planBytes s)
+    unfolding planBytes commandBytes
+    plan-size f e = simp (length-append, ← nodes-size) (omega arith)
+
+  pub plan-stored : (out a b : List ℕ) (start end : ℕ) → a ≡ sets out 0 nodes → start ≡ length nodes → b ≡ sets a start flows
+      → end ≡ start + length flows → set b end 255 ≡ sets out 0 (planBytes s)
+  unfolding planBytes commandBytes
+  plan-stored out a b start end p n q e =
+      let k : end ≡ length (nodes ++ flows) = simp length-append (omega arith) in
+      rw (sets-append out 0 (nodes ++ flows) (255 ∷ []), sets-append out 0 nodes flows, zero-add (length nodes), zero-add (length (nodes ++ flows)), ← p, ← n, ← q, ← k)
+
+-- 63 LINKs at most.
+pub links-few : (m n : ℕ) → m ≡ linkSize → n ≤ 63 → m * n ≤ 378
+unfolding linkSize
+links-few m n is few = rw is (omega arith)
+
+-- A schedule: links, FF.
+module _ (offsets periods : List ℕ) (n : ℕ) where
+  -- m stands for the size of a LINK.
+  module _ (m : ℕ) (is : m ≡ linkSize) where
+    pub links-size : m * n ≡ length (joined (linkBytes offsets periods) n 0)
+    links-size = rw is (sym (sized-each (linkBytes offsets periods) linkSize (link-size offsets periods) n 0))
+
+    pub schedule-size : m * n + 1 ≡ length (scheduleBytes n offsets periods)
+    unfolding scheduleBytes
+    schedule-size = simp (length-append, ← links-size)
+
+  pub schedule-stored : (out a : List ℕ) (end : ℕ) → a ≡ sets out 0 (joined (linkBytes offsets periods) n 0)
+      → end ≡ length (joined (linkBytes offsets periods) n 0) → set a end 255 ≡ sets out 0 (scheduleBytes n offsets periods)
+  unfolding scheduleBytes
+  schedule-stored out a end p e = rw (sets-append out 0 (joined (linkBytes offsets periods) n 0) (255 ∷ []), zero-add, ← p, ← e)
+
+-- The checks of a site handed to a writer.
+module _ (s : Site) (t : Bool) (passes : t ≡ passesOf s) where
+  pub fault-ill : not t ≡ true → 14 ≡ siteFault s
+  unfolding siteFault
+  fault-ill e = rw (← passes, not-true t e)
+
+  pub fault-bare : not t ≡ false → s .links ≡ 0 → 9 ≡ siteFault s
+  unfolding siteFault
+  fault-bare e z = rw (← passes, not-false t e, z)
+
+  pub fault-neither : not t ≡ false → (s .links ≡ 0 → ⊥) → 0 ≡ siteFault s
+  unfolding siteFault
+  fault-neither e n = rw (← passes, not-false t e, ne-eqb _ _ n)
+
+-- A site that fails neither has 63 links at most.
+pub fault-few : (s : Site) → siteFault s ≡ 0 → s .links ≤ 63
+unfolding siteFault
+fault-few s e = go (passesOf s) refl e
+  where
+    go : (t : Bool) → passesOf s ≡ t → _≡_ {A = ℕ} (cond t (cond (eqb (s .links) 0) 9 0) 14) 0 → s .links ≤ 63
+    go true p q = passes-few s p
+    go false p q = absurd (omega arith)
+
+-- The answers of the two operations.
+module _ (s : Site) (bytes out : List ℕ) (f : ℕ) (is : f ≡ siteFault s) where
+  pub written-faulty : (f ≡ 0 → ⊥) → (refused f 0, out) ≡ writtenIf s bytes out
+  unfolding writtenIf
+  written-faulty n = rw (← is, ne-eqb _ _ n)
+
+  pub written-well : (a : Outcome ℕ × List ℕ) → f ≡ 0 → a ≡ written bytes out → a ≡ writtenIf s bytes out
+  unfolding writtenIf
+  written-well a z q = rw (← is, eq-eqb _ _ z) q

@@ -1,0 +1,75 @@
+-- Right because the flows below n that are live are stored one after the other up to `at`; 64 - n falls.
+use borrow.Author.Needs.{needs}
+use Prim.Native.Nat.{_-_}
+use mathlib.Core.Path.{_∙_, ap}
+use mathlib.Core.Logic.{inl, inr}
+use lib.ListN.{length}
+use native.Mathlib.Omega.{arith}
+use Rattle.writer.specs.Write.{flowIfLive}
+use Rattle.writer.proofs.Laws.Write.{Stored, stored-start, stored-more, stored-room, stored-end, live-bytes, idle-bytes, flow-size}
+use Rattle.writer.proofs.put_flows.Statement.{statement}
+use Rattle.writer.proofs.put_flows.Tie as tie
+
+abbrev Inv-loop : tie.InvT-loop
+Inv-loop start out₀ site at₀ n₀ out at n = Stored (flowIfLive site) 64 start out₀ n at out
+
+abbrev μ-loop : tie.MeasureT-loop
+μ-loop start out₀ site at₀ n₀ out at n = 64 - n
+
+loop-holds : tie.Need-loop-holds Inv-loop μ-loop
+loop-holds c = stored-start _ _ _ _
+
+element-copy-out-if1 : tie.Need-element-copy-out-if1 Inv-loop μ-loop
+element-copy-out-if1 c = search needs
+
+flow-command-requires : tie.Need-flow-command-requires Inv-loop μ-loop
+flow-command-requires c κs = search needs
+
+slice-aggregate-put : tie.Need-slice-aggregate-put Inv-loop μ-loop
+slice-aggregate-put c = search needs
+
+put-requires : tie.Need-put-requires Inv-loop μ-loop
+put-requires c κs =
+    let made = c .before .before in
+    let sofar = made .before .before .before .before .loop .inv in
+    let room = stored-room _ _ _ _ _ _ _ sofar _ (omega arith) (made .flow-command .ensures ∙ live-bytes _ _ (made .before .if1 .taken)) in
+    let long = sofar .long in
+    omega arith
+
+size-requires : tie.Need-size-requires Inv-loop μ-loop
+size-requires c κs = search needs
+
+add-at : tie.Need-add-at Inv-loop μ-loop
+add-at c =
+    let made = c .before .before .before .before .before .before in
+    let sofar = made .before .before .before .before .loop .inv in
+    let room = stored-room _ _ _ _ _ _ _ sofar _ (omega arith) (made .flow-command .ensures ∙ live-bytes _ _ (made .before .if1 .taken)) in
+    let size = c .size .ensures in
+    omega (arith, flow-size (made .before .before .before .before .before .before .args .t1) (made .before .before .before .before .loop .n), ap length (made .flow-command .ensures))
+
+add-n : tie.Need-add-n Inv-loop μ-loop
+add-n c = search needs
+
+loop-less : tie.Need-loop-less Inv-loop μ-loop
+loop-less c = search needs
+
+loop-again : tie.Need-loop-again Inv-loop μ-loop
+loop-again c =
+    let sofar = c .before .before .before .loop .inv in
+    elim (c .if1 .came) [
+      | inl w ↦
+          stored-more _ _ _ _ _ _ _ sofar _ _ _ (omega arith) (w .1 .ensures ∙ live-bytes _ _ (w .0 .taken)) (w .8 ∙ w .4 .ensures)
+          (w .9 ∙ rw (w .7 .ensures, w .1 .ensures, flow-size (c .before .before .before .before .before .args .t1) (c .before .before .before .loop .n)))
+      | inr w ↦ stored-more _ _ _ _ _ _ _ sofar _ _ _ (omega arith) (idle-bytes _ _ (w .0 .left)) (w .1) (w .2 ∙ omega arith)
+    ]
+
+same-length : tie.Need-same-length Inv-loop μ-loop
+same-length c = c .before .loop .inv .long
+
+returns : tie.Need-returns Inv-loop μ-loop
+returns c = stored-end _ _ _ _ _ _ _ (c .before .loop .inv) (omega arith)
+
+pub put-flows-spec : {M : Type 1} → statement M
+put-flows-spec =
+    tie.close
+    (tie.spec Inv-loop μ-loop loop-holds element-copy-out-if1 flow-command-requires slice-aggregate-put put-requires size-requires add-at add-n loop-less loop-again same-length returns)

@@ -1,0 +1,66 @@
+-- Right because the items below i are stored one after the other up to `at`; n - i falls.
+use borrow.Author.Needs.{needs}
+use Prim.Native.Nat.{_-_}
+use mathlib.Core.Path.{_∙_, ap}
+use lib.ListN.{length}
+use native.Mathlib.Omega.{arith}
+use Rattle.writer.specs.Write.{linkBytes}
+use Rattle.writer.proofs.Laws.Write.{Stored, stored-start, stored-more, stored-room, stored-end, link-size}
+use Rattle.writer.proofs.put_links.Statement.{statement}
+use Rattle.writer.proofs.put_links.Tie as tie
+
+abbrev Inv-loop : tie.InvT-loop
+Inv-loop links offsets periods out₀ n at₀ i₀ out at i = Stored (linkBytes offsets periods) n 0 out₀ i at out
+
+abbrev μ-loop : tie.MeasureT-loop
+μ-loop links offsets periods out₀ n at₀ i₀ out at i = n - i
+
+loop-holds : tie.Need-loop-holds Inv-loop μ-loop
+loop-holds c = stored-start _ _ _ _
+
+link-command-requires : tie.Need-link-command-requires Inv-loop μ-loop
+link-command-requires c κs = search needs
+
+slice-aggregate-put : tie.Need-slice-aggregate-put Inv-loop μ-loop
+slice-aggregate-put c = search needs
+
+put-requires : tie.Need-put-requires Inv-loop μ-loop
+put-requires c κs =
+    let made = c .before .before in
+    let sofar = made .before .before .loop .inv in
+    let room = stored-room _ _ _ _ _ _ _ sofar _ (omega arith) (made .link-command .ensures) in
+    let long = sofar .long in
+    omega arith
+
+link-size-requires : tie.Need-link-size-requires Inv-loop μ-loop
+link-size-requires c κs = search needs
+
+add-at : tie.Need-add-at Inv-loop μ-loop
+add-at c =
+    let made = c .before .before .before .before .before .before in
+    let room = stored-room _ _ _ _ _ _ _ (made .before .before .loop .inv) _ (omega arith) (made .link-command .ensures) in
+    let size = c .link-size .ensures in
+    omega (arith, link-size (made .before .before .before .before .args .offsets) (made .before .before .before .before .args .periods) (made .before .before .loop .i), ap length (made .link-command .ensures))
+
+add-i : tie.Need-add-i Inv-loop μ-loop
+add-i c = search needs
+
+loop-less : tie.Need-loop-less Inv-loop μ-loop
+loop-less c = search needs
+
+loop-again : tie.Need-loop-again Inv-loop μ-loop
+loop-again c =
+    let made = c .before .before .before .before .before .before in
+    stored-more _ _ _ _ _ _ _ (made .before .before .loop .inv) _ _ _ (omega arith) (made .link-command .ensures) (c .before .before .before .put .ensures)
+    (rw (c .link-size .ensures, made .link-command .ensures, link-size (made .before .before .before .before .args .offsets) (made .before .before .before .before .args .periods) (made .before .before .loop .i)))
+
+same-length : tie.Need-same-length Inv-loop μ-loop
+same-length c = c .before .loop .inv .long
+
+returns : tie.Need-returns Inv-loop μ-loop
+returns c = let end = stored-end _ _ _ _ _ _ _ (c .before .loop .inv) (omega arith) in (end .0, end .1 ∙ omega arith)
+
+pub put-links-spec : {M : Type 1} → statement M
+put-links-spec =
+    tie.close
+    (tie.spec Inv-loop μ-loop loop-holds link-command-requires slice-aggregate-put put-requires link-size-requires add-at add-i loop-less loop-again same-length returns)

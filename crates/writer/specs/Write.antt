@@ -1,0 +1,62 @@
+-- What the writers put into a borrowed slice.
+use Prim.Native.Nat.{ℕ, zero, suc, _+_}
+use mathlib.Core.Bool.{cond}
+use mathlib.Core.List.{List, [], _∷_, _++_}
+use lib.Dec.{eqb, ltb}
+use lib.ListN.{length, getD, drop}
+use Rattle.pinwheel.specs.Outcome.{Outcome, accepted, refused}
+use Rattle.site.specs.declared.Site.{Site}
+use Rattle.site.specs.Sites.{live}
+use Rattle.writer.specs.declared.Written.{Written}
+use Rattle.writer.specs.declared.Written.the-variants.{Length, Refused}
+use Rattle.format.specs.Bytes.{bytesOf}
+use Rattle.limits.specs.Check.{passesOf}
+
+-- What each case of a writer's answer says in the terms of 01's tables: the number of bytes written, or the number and place of a refusal.
+abbrev pub writing : Written → Outcome ℕ
+writing (Length n) = accepted n
+writing (Refused number place) = refused number place
+
+-- 01, command 01, NODE, of the node at index i.
+unfoldable pub nodeBytes : Site → ℕ → List ℕ
+nodeBytes s i = 1 ∷ getD (s .parents) i 0 ∷ bytesOf 2 (getD (s .capacities) i 0) ++ bytesOf 2 (getD (s .gaps) i 0)
+
+-- 01, command 02, FLOW, of flow number n.
+unfoldable pub flowBytes : Site → ℕ → List ℕ
+flowBytes s n = 2 ∷ n ∷ getD (s .entries) n 0 ∷ getD (s .rates) n 0 ∷ bytesOf 2 (getD (s .deadlines) n 0)
+
+-- 01, command 11, LINK, of the link at index i: its node, offset and period.
+unfoldable pub linkBytes : List ℕ → List ℕ → ℕ → List ℕ
+linkBytes offsets periods i = 17 ∷ (i + 1) ∷ bytesOf 2 (getD offsets i 0) ++ bytesOf 2 (getD periods i 0)
+
+-- The bytes of r items from number i on, one after the other.
+unfoldable pub joined : (ℕ → List ℕ) → ℕ → ℕ → List ℕ
+joined bytes zero i = []
+joined bytes (suc r) i = bytes i ++ joined bytes r (i + 1)
+
+unfoldable pub flowIfLive : Site → ℕ → List ℕ
+flowIfLive s n = cond (live s n) (flowBytes s n) []
+
+-- 01: the NODEs, then the FLOWs of all live flows by rising number.
+unfoldable pub commandBytes : Site → List ℕ
+commandBytes s = joined (nodeBytes s) (s .links) 0 ++ joined (flowIfLive s) 64 0
+
+-- These and END.
+unfoldable pub planBytes : Site → List ℕ
+planBytes s = commandBytes s ++ (255 ∷ [])
+
+-- 01: the LINKs by rising node, END.
+unfoldable pub scheduleBytes : ℕ → List ℕ → List ℕ → List ℕ
+scheduleBytes links offsets periods = joined (linkBytes offsets periods) links 0 ++ (255 ∷ [])
+
+-- 01: a writer fills the front of the borrowed slice and keeps the rest. Too short a slice is 1, judged after all else.
+unfoldable pub written : List ℕ → List ℕ → Outcome ℕ × List ℕ
+written bytes out = cond (ltb (length out) (length bytes)) (refused 1 0, out) (accepted (length bytes), bytes ++ drop (length bytes) out)
+
+-- 01, the checks of a site handed to a writer: the first of 14 and 9 that it fails, 0 where it fails neither.
+unfoldable pub siteFault : Site → ℕ
+siteFault s = cond (passesOf s) (cond (eqb (s .links) 0) 9 0) 14
+
+-- Those checks, then the writing itself.
+unfoldable pub writtenIf : Site → List ℕ → List ℕ → Outcome ℕ × List ℕ
+writtenIf s bytes out = cond (eqb (siteFault s) 0) (written bytes out) (refused (siteFault s) 0, out)

@@ -1,0 +1,212 @@
+// Writing plans and schedules into a borrowed slice.
+use site::Site;
+ghost use mathlib.Core.Path.{_≡_};
+ghost use Prim.Native.Nat.{_+_, _≤_, _<_};
+ghost use lib.ListN.{length};
+ghost use lib.Seq.{sets};
+ghost use Rattle.writer.specs.Write.{writing, nodeBytes, flowBytes, flowIfLive, linkBytes, joined, planBytes, scheduleBytes};
+ghost use Rattle.writer.specs.Write.{written, siteFault, writtenIf};
+
+// The number of bytes written, or the number and the place of a refusal.
+pub enum Written {
+    Length(usize),
+    Refused(u8, usize),
+}
+
+// The commands: NODE, FLOW and LINK.
+fn node_command(site: Site, i: usize) -> [u8; 6]
+    requires { ⌜ i < 63 ⌝ }
+    ensures { λ r. ⌜ r ≡ nodeBytes site i ⌝ }
+{
+    let capacity = site.capacities[i];
+    let gap = site.gaps[i];
+    [
+        1,
+        site.parents[i],
+        format::low(capacity),
+        format::high(capacity),
+        format::low(gap),
+        format::high(gap),
+    ]
+}
+
+fn flow_command(site: Site, n: usize) -> [u8; 6]
+    requires { ⌜ n < 64 ⌝ }
+    ensures { λ r. ⌜ r ≡ flowBytes site n ⌝ }
+{
+    let deadline = site.deadlines[n];
+    [
+        2,
+        n as u8,
+        site.entries[n],
+        site.rates[n],
+        format::low(deadline),
+        format::high(deadline),
+    ]
+}
+
+fn link_command(offsets: [u16; 63], periods: [u16; 63], i: usize) -> [u8; 6]
+    requires { ⌜ i < 63 ⌝ }
+    ensures { λ r. ⌜ r ≡ linkBytes offsets periods i ⌝ }
+{
+    let offset = offsets[i];
+    let period = periods[i];
+    [
+        17,
+        (i + 1) as u8,
+        format::low(offset),
+        format::high(offset),
+        format::low(period),
+        format::high(period),
+    ]
+}
+
+// The bytes from index `at` on.
+fn put(out: &mut [u8], at: usize, bytes: &[u8])
+    requires { ⌜ at + length (now bytes) ≤ length (now out) ⌝ }
+    ensures { λ _. ⌜ now (out .exit) ≡ sets (now (out .entry)) at (now (bytes .entry)) ⌝ }
+{
+    let mut i = 0;
+    while i < bytes.len() {
+        out[at + i] = bytes[i];
+        i += 1;
+    }
+}
+
+// All nodes, from the start on; answers the index after them.
+fn put_nodes(site: Site, out: &mut [u8]) -> usize
+    requires { ⌜ (site .links ≤ 63) × (length (joined (nodeBytes site) (site .links) 0) ≤ length (now out)) ⌝ }
+    ensures { λ r. ⌜ (now (out .exit) ≡ sets (now (out .entry)) 0 (joined (nodeBytes site) (site .links) 0))
+        × (r ≡ length (joined (nodeBytes site) (site .links) 0)) ⌝ }
+{
+    let n = site.links as usize;
+    let mut at = 0;
+    let mut i = 0;
+    while i < n {
+        let command = node_command(site, i);
+        put(out, at, &command);
+        at += format::size(1);
+        i += 1;
+    }
+    at
+}
+
+// All live flows, from index `start` on; answers the index after them.
+fn put_flows(site: Site, start: usize, out: &mut [u8]) -> usize
+    requires { ⌜ start + length (joined (flowIfLive site) 64 0) ≤ length (now out) ⌝ }
+    ensures { λ r. ⌜ (now (out .exit) ≡ sets (now (out .entry)) start (joined (flowIfLive site) 64 0))
+        × (r ≡ start + length (joined (flowIfLive site) 64 0)) ⌝ }
+{
+    let mut at = start;
+    let mut n = 0;
+    while n < 64 {
+        if site.states[n] == 1 {
+            let command = flow_command(site, n);
+            put(out, at, &command);
+            at += format::size(2);
+        }
+        n += 1;
+    }
+    at
+}
+
+// How many bytes the live flows take.
+fn flows_size(site: Site) -> usize
+    ensures { λ r. ⌜ r ≡ length (joined (flowIfLive site) 64 0) ⌝ }
+{
+    let mut size = 0;
+    let mut n = 0;
+    while n < 64 {
+        if site.states[n] == 1 {
+            size += format::size(2);
+        }
+        n += 1;
+    }
+    size
+}
+
+// The plan of a site that passed the other checks.
+fn put_plan(site: Site, out: &mut [u8]) -> Written
+    requires { ⌜ site .links ≤ 63 ⌝ }
+    ensures { λ r. ⌜ (writing r, now (out .exit)) ≡ written (planBytes site) (now (out .entry)) ⌝ }
+{
+    let nodes = format::size(1) * site.links as usize;
+    let size = nodes + flows_size(site) + 1;
+    if out.len() < size {
+        return Written::Refused(1, 0);
+    }
+    let start = put_nodes(site, out);
+    let end = put_flows(site, start, out);
+    out[end] = 255;
+    Written::Length(size)
+}
+
+// So many links, with these offsets and periods, from the start on; answers the index after them.
+fn put_links(links: u8, offsets: [u16; 63], periods: [u16; 63], out: &mut [u8]) -> usize
+    requires { ⌜ (links ≤ 63) × (length (joined (linkBytes offsets periods) links 0) ≤ length (now out)) ⌝ }
+    ensures { λ r. ⌜ (now (out .exit) ≡ sets (now (out .entry)) 0 (joined (linkBytes offsets periods) links 0))
+        × (r ≡ length (joined (linkBytes offsets periods) links 0)) ⌝ }
+{
+    let n = links as usize;
+    let mut at = 0;
+    let mut i = 0;
+    while i < n {
+        let command = link_command(offsets, periods, i);
+        put(out, at, &command);
+        at += format::link_size();
+        i += 1;
+    }
+    at
+}
+
+// The schedule of so many links, with these offsets and periods.
+fn put_schedule(links: u8, offsets: [u16; 63], periods: [u16; 63], out: &mut [u8]) -> Written
+    requires { ⌜ links ≤ 63 ⌝ }
+    ensures { λ r. ⌜ (writing r, now (out .exit)) ≡ written (scheduleBytes links offsets periods) (now (out .entry)) ⌝ }
+{
+    let size = format::link_size() * links as usize + 1;
+    if out.len() < size {
+        return Written::Refused(1, 0);
+    }
+    let end = put_links(links, offsets, periods, out);
+    out[end] = 255;
+    Written::Length(size)
+}
+
+// 14 and 9 for a site handed to a writer, 0 where it fails neither.
+fn site_fault(site: Site) -> u8
+    ensures { λ r. ⌜ r ≡ siteFault site ⌝ }
+{
+    if !limits::passes(site) {
+        return 14;
+    }
+    if site.links == 0 {
+        return 9;
+    }
+    0
+}
+
+// The plan bytes of a site.
+pub fn write_plan(site: Site, out: &mut [u8]) -> Written
+    ensures { λ r. ⌜ (writing r, now (out .exit)) ≡ writtenIf site (planBytes site) (now (out .entry)) ⌝ }
+{
+    let fault = site_fault(site);
+    if fault != 0 {
+        return Written::Refused(fault, 0);
+    }
+    put_plan(site, out)
+}
+
+// The schedule bytes of a site.
+pub fn write_schedule(site: Site, out: &mut [u8]) -> Written
+    ensures { λ r. ⌜ (writing r, now (out .exit))
+        ≡ writtenIf site (scheduleBytes (site .links) (site .offsets) (site .periods)) (now (out .entry)) ⌝ }
+{
+    let fault = site_fault(site);
+    if fault != 0 {
+        return Written::Refused(fault, 0);
+    }
+    let offsets = site.offsets;
+    let periods = site.periods;
+    put_schedule(site.links, offsets, periods, out)
+}
