@@ -1,5 +1,4 @@
-// What programs print of plans: `slotplan` all of it, others a part.
-use plan::Written;
+// What `slotplan` prints of a plan.
 use site::Site;
 use site::Verdict;
 ghost use Prim.Native.Nat.{_<_};
@@ -7,15 +6,6 @@ ghost use Prim.Native.Nat.{_<_};
 pub fn print_field(name: &[u8], value: u64) {
     io::write_all(1, name);
     io::print_decimal(1, value);
-}
-
-// A writer's answer: the number of bytes, or the refusal.
-pub fn print_written(name: &[u8], written: Written) {
-    io::write_all(1, name);
-    match written {
-        Written::Length(n) => print_field(b" ", n as u64),
-        Written::Refused(number, place) => print_refusal(b" refused ", number, place),
-    }
 }
 
 pub fn print_refusal(name: &[u8], number: u8, place: usize) {
