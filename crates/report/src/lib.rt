@@ -1,5 +1,4 @@
-// What programs print of plans: `slotplan` all of it, others a part.
-use plan::Written;
+// What `slotplan` prints of a plan.
 use site::Site;
 use site::Verdict;
 ghost use Prim.Native.Nat.{_<_};
@@ -7,15 +6,6 @@ ghost use Prim.Native.Nat.{_<_};
 pub fn print_field(name: &[u8], value: u64) {
     io::write_all(1, name);
     io::print_decimal(1, value);
-}
-
-// A writer's answer: the number of bytes, or the refusal.
-pub fn print_written(name: &[u8], written: Written) {
-    io::write_all(1, name);
-    match written {
-        Written::Length(n) => print_field(b" ", n as u64),
-        Written::Refused(number, place) => print_refusal(b" refused ", number, place),
-    }
 }
 
 pub fn print_refusal(name: &[u8], number: u8, place: usize) {
@@ -92,7 +82,7 @@ fn print_accepted(site: Site) {
 
 // Reads the bytes as a plan and prints its links, its flows and their numbers, or the refusal.
 pub fn print_plan(bytes: &[u8]) {
-    let read = plan::read_plan(bytes);
+    let read = reader::read_plan(bytes);
     let verdict = read.verdict;
     match verdict {
         Verdict::Accepted => print_accepted(read.site),
@@ -104,7 +94,7 @@ pub fn print_plan(bytes: &[u8]) {
 }
 
 // The plan on standard input. No input can pass more than 63 NODEs, 64 FLOWs and END, so its first 1,024 bytes settle every answer: this is
-// the law `read-first` of crate `plan`.
+// the law `read-first` of crate `reader`.
 pub fn print_input() {
     let mut bytes = [0u8; 1024];
     let n = io::read_full(0, &mut bytes);

@@ -1,4 +1,4 @@
--- `print_flows` prints one flow a turn, of the 64 that there can be, so that the count is at most their number.
+-- Right because the count is at most the number of flows passed, n, and n at most 64; 64 - n falls.
 use borrow.Author.Needs.{needs}
 use Prim.Native.Nat.{_≤_, _-_}
 use mathlib.Core.Logic.{⊎-elim}
@@ -38,15 +38,4 @@ returns c = search needs
 
 pub print-flows-spec : {M : Type 1} → statement M
 print-flows-spec =
-    tie.close
-    (tie.spec
-    Inv-loop
-    μ-loop
-    loop-holds
-    element-copy-out-if1
-    print-flow-requires
-    add-count
-    add-n
-    loop-less
-    loop-again
-    returns)
+    tie.close (tie.spec Inv-loop μ-loop loop-holds element-copy-out-if1 print-flow-requires add-count add-n loop-less loop-again returns)

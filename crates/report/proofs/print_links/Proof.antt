@@ -1,4 +1,4 @@
--- `print_links` prints one link a turn, of the 63 that there can be.
+-- Right because the index stays at most 63; 63 - i falls.
 use borrow.Author.Needs.{needs}
 use Prim.Native.Nat.{_≤_, _-_}
 use Rattle.report.proofs.print_links.Statement.{statement}
@@ -32,15 +32,4 @@ returns : tie.Need-returns Inv-loop μ-loop
 returns c = search needs
 
 pub print-links-spec : {M : Type 1} → statement M
-print-links-spec =
-    tie.close
-    (tie.spec
-    Inv-loop
-    μ-loop
-    cast-links
-    loop-holds
-    print-link-requires
-    add-i
-    loop-less
-    loop-again
-    returns)
+print-links-spec = tie.close (tie.spec Inv-loop μ-loop cast-links loop-holds print-link-requires add-i loop-less loop-again returns)

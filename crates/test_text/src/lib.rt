@@ -1,0 +1,206 @@
+// What the test programs share: lines of text with plans in hexadecimal or numbers in decimal, and what they print.
+use writer::Written;
+ghost use Prim.Native.Nat.{_≤_, _<_};
+ghost use mathlib.Core.Path.{_≡_};
+ghost use lib.ListN.{length};
+
+// A decimal number of a line and the index behind its last digit. Where there is none, `found` is false and the index is the line's length.
+pub struct Number {
+    pub found: bool,
+    pub value: usize,
+    pub next: usize,
+}
+
+// Zeros with room for a program's whole input, and for one plan; the contracts give only the lengths.
+pub fn input_space() -> [u8; 131072]
+    ensures { λ r. ⌜ 131072 ≡ length r ⌝ }
+{
+    [0; 131072]
+}
+
+pub fn plan_space() -> [u8; 2048]
+    ensures { λ r. ⌜ 2048 ≡ length r ⌝ }
+{
+    [0; 2048]
+}
+
+// The index of the line's end.
+pub fn line_end(text: &[u8], start: usize) -> usize
+    requires { ⌜ start ≤ length (now text) ⌝ }
+    ensures { λ r. ⌜ (start ≤ r) × (r ≤ length (now (text .entry))) ⌝ }
+{
+    let mut end = start;
+    while end < text.len() {
+        if text[end] == b'\n' {
+            return end;
+        }
+        end += 1;
+    }
+    end
+}
+
+// Whether the line begins with this byte.
+pub fn begins(line: &[u8], byte: u8) -> bool {
+    if line.len() == 0 {
+        return false;
+    }
+    line[0] == byte
+}
+
+// Prints a line that begins with `#`; answers whether it does.
+pub fn echo(line: &[u8]) -> bool {
+    if begins(line, b'#') {
+        io::write_all(1, line);
+        io::write_all(1, b"\n");
+        return true;
+    }
+    false
+}
+
+// The value of a hexadecimal digit, 16 for any other byte.
+fn digit(c: u8) -> u8
+    ensures { λ r. ⌜ r ≤ 16 ⌝ }
+{
+    if c < b'0' {
+        return 16;
+    }
+    if c <= b'9' {
+        return c - b'0';
+    }
+    if c < b'A' {
+        return 16;
+    }
+    if c <= b'F' {
+        return c - b'A' + 10;
+    }
+    16
+}
+
+// The byte of two hexadecimal digits.
+fn joined(high: u8, low: u8) -> u8
+    requires { ⌜ (high < 16) × (low < 16) ⌝ }
+{
+    high * 16 + low
+}
+
+// Puts the byte after the first n if there is room; answers how many there are then.
+fn store(bytes: &mut [u8], n: usize, byte: u8) -> usize
+    requires { ⌜ n ≤ length (now bytes) ⌝ }
+    ensures { λ r. ⌜ r ≤ length (now (bytes .exit)) ⌝ }
+{
+    if n < bytes.len() {
+        bytes[n] = byte;
+        return n + 1;
+    }
+    n
+}
+
+// The bytes that the line's pairs of hexadecimal digits stand for; answers how many there are.
+pub fn parse_hex(line: &[u8], bytes: &mut [u8]) -> usize
+    ensures { λ r. ⌜ r ≤ length (now (bytes .exit)) ⌝ }
+{
+    let mut n = 0;
+    let mut high: u8 = 16;
+    let mut i = 0;
+    while i < line.len() {
+        let value = digit(line[i]);
+        if value < 16 {
+            if high < 16 {
+                n = store(bytes, n, joined(high, value));
+                high = 16;
+            } else {
+                high = value;
+            }
+        }
+        i += 1;
+    }
+    n
+}
+
+// The index of the first decimal digit from `start` on, or the line's length.
+fn number_start(line: &[u8], start: usize) -> usize
+    requires { ⌜ start ≤ length (now line) ⌝ }
+    ensures { λ r. ⌜ (start ≤ r) × (r ≤ length (now (line .entry))) ⌝ }
+{
+    let mut at = start;
+    while at < line.len() {
+        if digit(line[at]) < 10 {
+            return at;
+        }
+        at += 1;
+    }
+    at
+}
+
+// The number with one digit more. From 100,000 on further digits are dropped: no entry of 16 bits takes so large a value.
+fn with_digit(value: usize, digit: u8) -> usize
+    requires { ⌜ (value < 1000000) × (digit < 10) ⌝ }
+    ensures { λ r. ⌜ r < 1000000 ⌝ }
+{
+    if value < 100000 {
+        return value * 10 + digit as usize;
+    }
+    value
+}
+
+// The first decimal number of the line from `start` on.
+pub fn next_number(line: &[u8], start: usize) -> Number
+    requires { ⌜ start ≤ length (now line) ⌝ }
+    ensures { λ r. ⌜ (start ≤ r .next) × (r .next ≤ length (now (line .entry))) ⌝ }
+    ensures moves { λ r. ⌜ (start < length (now (line .entry)) → start < r .next) ⌝ }
+{
+    let first = number_start(line, start);
+    let mut value: usize = 0;
+    let mut at = first;
+    while at < line.len() {
+        let next = digit(line[at]);
+        if 9 < next {
+            break;
+        }
+        value = with_digit(value, next);
+        at += 1;
+    }
+    if at == first {
+        return Number {
+            found: false,
+            value: 0,
+            next: line.len(),
+        };
+    }
+    Number {
+        found: true,
+        value,
+        next: at,
+    }
+}
+
+fn glyph(digit: u8) -> u8
+    requires { ⌜ digit < 16 ⌝ }
+{
+    if digit < 10 {
+        return b'0' + digit;
+    }
+    b'A' + (digit - 10)
+}
+
+fn print_byte(byte: u8) {
+    io::write_all(1, &[b' ', glyph(byte / 16), glyph(byte % 16)]);
+}
+
+// Each byte as a space and two hexadecimal digits.
+pub fn print_hex(bytes: &[u8]) {
+    let mut i = 0;
+    while i < bytes.len() {
+        print_byte(bytes[i]);
+        i += 1;
+    }
+}
+
+// A writer's answer: the number of bytes, or the refusal.
+pub fn print_written(name: &[u8], written: Written) {
+    io::write_all(1, name);
+    match written {
+        Written::Length(n) => report::print_field(b" ", n as u64),
+        Written::Refused(number, place) => report::print_refusal(b" refused ", number, place),
+    }
+}
