@@ -1,0 +1,103 @@
+//! Damage to plans, by which all refusals of reading are met.
+
+use crate::bytes::{flow_command, node_command, END, NODE};
+use crate::random::Random;
+use crate::random_plans::random_commands;
+use crate::rules::MOST_LINKS;
+
+/// The bytes of a random plan, in about half of all cases damaged.
+pub fn random_plan(random: &mut Random) -> Vec<u8> {
+    let mut commands = random_commands(random);
+    if random.chance(30) {
+        damage_commands(random, &mut commands);
+    }
+    let mut bytes = commands.concat();
+    bytes.push(END);
+    if random.chance(25) {
+        damage_bytes(random, &mut bytes);
+    }
+    bytes
+}
+
+/// The bytes of a random plan without damage.
+pub fn undamaged_plan(random: &mut Random) -> Vec<u8> {
+    let mut bytes = random_commands(random).concat();
+    bytes.push(END);
+    bytes
+}
+
+fn damage_commands(random: &mut Random, commands: &mut Vec<Vec<u8>>) {
+    let (first, second) = (random.index(commands.len()), random.index(commands.len()));
+    let deadline = random.between(1, 65_535);
+    match random.between(0, 11) {
+        0 => commands.swap(first, second),
+        1 => commands.insert(second, commands[first].clone()),
+        2 => commands.push(node_command(0, 100, deadline.min(1024))),
+        3 => commands.insert(0, flow_command(0, 1, 1, deadline)),
+        4 => commands.clear(),
+        5 => {
+            commands.remove(first);
+        }
+        6 => commands[first][0] = random.pick(&[0x00, 0x01, 0x02, 0x03, 0x11, 0xFE, 0xFF]),
+        _ => damage_operands(random, commands),
+    }
+}
+
+/// One to three operands of a command at a limit or beyond.
+fn damage_operands(random: &mut Random, commands: &mut [Vec<u8>]) {
+    let any = random.index(commands.len());
+    let last = commands.len() - 1;
+    let index = random.pick(&[any, any, last, last.min(MOST_LINKS)]);
+    for _ in 0..random.pick(&[1, 1, 1, 2, 3]) {
+        let widths: &[usize] = if commands[index][0] == NODE {
+            &[1, 2, 2]
+        } else {
+            &[1, 1, 1, 2]
+        };
+        let operand = random.index(widths.len());
+        let start = 1 + widths[..operand].iter().sum::<usize>();
+        let width = widths[operand];
+        let value = random_operand(random, width, index);
+        commands[index][start..start + width].copy_from_slice(&value.to_le_bytes()[..width]);
+    }
+}
+
+/// The index of a NODE is one below its own number.
+fn random_operand(random: &mut Random, width: usize, index: usize) -> u64 {
+    let index = index as u64;
+    if width == 2 {
+        return random.pick(&[0, 1, 255, 256, 1023, 1024, 1025, 32_768, 65_534, 65_535]);
+    }
+    random.pick(&[0, 1, 62, 63, 64, 65, 254, 255, index, index + 1, index + 2])
+}
+
+fn damage_bytes(random: &mut Random, bytes: &mut Vec<u8>) {
+    let place = random.index(bytes.len());
+    match random.between(0, 12) {
+        0..=2 => bytes[place] = random.byte(),
+        3 => bytes[place] ^= 1 << random.between(0, 7),
+        4..=5 => {
+            bytes.remove(place);
+        }
+        6..=7 => bytes.insert(place, random.pick(&[0, 1, 2, 255, 17])),
+        8..=9 => bytes.truncate(place),
+        10..=11 => append(random, bytes),
+        _ => *bytes = noise(random),
+    }
+}
+
+fn append(random: &mut Random, bytes: &mut Vec<u8>) {
+    let most = random.pick(&[1, 1, 6, 30, 1000]);
+    for _ in 0..random.between(1, most) {
+        let byte = random.byte();
+        bytes.push(random.pick(&[0, 1, 2, END, byte]));
+    }
+}
+
+/// Bytes that are no plan, made of commands' first bytes and small numbers.
+fn noise(random: &mut Random) -> Vec<u8> {
+    let length = random.between(0, 40);
+    (0..length)
+        .map(|_| random.pick(&[0, 0, 0, 1, 1, 1, 2, 2, 3, 4, 9, 17, 64, END]))
+        .collect()
+}

@@ -1,0 +1,40 @@
+//! A second implementation of document 01, for comparison with the programs under crates/.
+
+mod bytes;
+mod compare;
+mod damage;
+mod expected;
+mod lines;
+mod programs;
+mod random;
+mod random_gaps;
+mod random_plans;
+mod random_sites;
+mod rules;
+
+use std::path::Path;
+use std::process::ExitCode;
+
+const USAGE: &str = "host expected [--write]\nhost random N SEED [--bin DIR]";
+
+fn random(count: &str, seed: &str, folder: &str) -> Option<u8> {
+    let (count, seed) = (count.parse().ok()?, seed.parse().ok()?);
+    Some(compare::compare_random(count, seed, Path::new(folder)))
+}
+
+fn main() -> ExitCode {
+    let words: Vec<String> = std::env::args().skip(1).collect();
+    let words: Vec<&str> = words.iter().map(String::as_str).collect();
+    let status = match words.as_slice() {
+        ["expected"] => Some(expected::check_all(false)),
+        ["expected", "--write"] => Some(expected::check_all(true)),
+        ["random", count, seed] => random(count, seed, "target/bin"),
+        ["random", count, seed, "--bin", folder] => random(count, seed, folder),
+        _ => None,
+    };
+    let status = status.unwrap_or_else(|| {
+        eprintln!("{USAGE}");
+        2
+    });
+    ExitCode::from(status)
+}

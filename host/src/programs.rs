@@ -1,0 +1,293 @@
+//! What each program prints for an input.
+
+use crate::bytes::{passes_check_14, read_plan, write_plan, write_schedule};
+use crate::rules::{slot_rule, Refusal, Site};
+
+/// The programs with a stored input and output, in crates of these names.
+pub const PROGRAMS: [&str; 6] = [
+    "slotplan",
+    "test_figures",
+    "test_overlong",
+    "test_vectors",
+    "test_altered",
+    "test_deals",
+];
+
+/// A schedule of 63 links has 63 times 6 bytes and END.
+const LONGEST_SCHEDULE: usize = 379;
+
+/// The error is about an input outside the form that the program reads.
+pub fn output(program: &str, input: &[u8]) -> Result<String, String> {
+    match program {
+        "slotplan" | "test_figures" | "test_overlong" => Ok(slotplan(input)),
+        "test_vectors" => each_line(input, vectors_line),
+        "test_altered" => {
+            let mut site = Site::empty();
+            each_line(input, |line| altered_line(&mut site, line))
+        }
+        "test_deals" => each_line(input, deals_line),
+        _ => Err(format!("no program {program}")),
+    }
+}
+
+fn each_line(
+    input: &[u8],
+    mut answer: impl FnMut(&str) -> Result<String, String>,
+) -> Result<String, String> {
+    let text = std::str::from_utf8(input).map_err(|error| error.to_string())?;
+    let mut output = String::new();
+    for line in text.split_terminator('\n') {
+        if line.starts_with('#') {
+            output += &format!("{line}\n");
+        } else {
+            output += &answer(line).map_err(|error| format!("{error} in line: {line}"))?;
+        }
+    }
+    Ok(output)
+}
+
+pub fn slotplan(plan: &[u8]) -> String {
+    match read_plan(plan) {
+        Ok(site) => links_and_flows(&site),
+        Err(refusal) => format!("{}\n", refused(refusal)),
+    }
+}
+
+fn links_and_flows(site: &Site) -> String {
+    let mut output = String::new();
+    for node in site.nodes() {
+        let parent = site.parents[node - 1];
+        let deal = site.deal_under(parent as usize);
+        let base = deal.expect("the site was accepted").base;
+        let (offset, period) = (site.offsets[node - 1], site.periods[node - 1]);
+        output +=
+            &format!("link {node} parent {parent} base {base} offset {offset} period {period}\n");
+    }
+    for flow in site.live_flows() {
+        let (node, rate) = (site.entries[flow], site.rates[flow]);
+        let (deadline, bound) = (site.deadlines[flow], site.bound(flow));
+        output +=
+            &format!("flow {flow} node {node} rate {rate} deadline {deadline} bound {bound}\n");
+    }
+    let (links, flows) = (site.links, site.live_flows().len());
+    output + &format!("accepted links {links} flows {flows}\n")
+}
+
+fn refused(refusal: Refusal) -> String {
+    format!("refused {} {}", refusal.number, refusal.place)
+}
+
+fn length_or_refusal(answer: Result<usize, Refusal>) -> String {
+    answer.map_or_else(refused, |length| length.to_string())
+}
+
+/// Each byte after a space.
+pub fn hex(bytes: &[u8]) -> String {
+    bytes.iter().map(|byte| format!(" {byte:02X}")).collect()
+}
+
+/// Characters between the digits are passed over.
+fn bytes_of_hex(text: &str) -> Result<Vec<u8>, String> {
+    let digits: Vec<u32> = text.chars().filter_map(|sign| sign.to_digit(16)).collect();
+    if digits.len() % 2 == 1 || text.contains(|sign: char| sign.is_ascii_lowercase()) {
+        return Err("not pairs of upper-case hexadecimal digits".to_string());
+    }
+    let pairs = digits.chunks(2);
+    Ok(pairs.map(|pair| (pair[0] * 16 + pair[1]) as u8).collect())
+}
+
+fn at_most(count: usize, most: usize, what: &str) -> Result<usize, String> {
+    if count > most {
+        return Err(format!("more than {most} {what}"));
+    }
+    Ok(count)
+}
+
+fn vectors_line(line: &str) -> Result<String, String> {
+    let plan = bytes_of_hex(line)?;
+    at_most(plan.len(), 2048, "bytes")?;
+    let site = match read_plan(&plan) {
+        Ok(site) => site,
+        Err(refusal) => return Ok(format!("{}\n", refused(refusal))),
+    };
+    let mut again = vec![0; plan.len()];
+    let plan_answer = length_or_refusal(write_plan(&site, &mut again));
+    let equal = if again == plan { " equal" } else { "" };
+    let mut schedule = vec![0; LONGEST_SCHEDULE];
+    let answer = write_schedule(&site, &mut schedule);
+    schedule.truncate(answer.unwrap_or(0));
+    let (links, schedule_answer) = (site.links, length_or_refusal(answer));
+    let bytes = hex(&schedule);
+    Ok(format!(
+        "accepted links {links} plan {plan_answer}{equal} schedule {schedule_answer}{bytes}\n"
+    ))
+}
+
+fn numbers(line: &str) -> Result<Vec<u64>, String> {
+    let words = line.split(' ').filter(|word| !word.is_empty());
+    words
+        .map(|word| word.parse().map_err(|_| format!("no number: {word}")))
+        .collect()
+}
+
+/// An entry of the site by the numbers that test_altered uses, with the largest value of its width.
+pub fn entry(site: &mut Site, field: u64, index: u64) -> Option<(&mut u64, u64)> {
+    const OF_8_BITS: u64 = 255;
+    const OF_16_BITS: u64 = 65_535;
+    let (list, largest) = match field {
+        0 => return Some((&mut site.links, OF_8_BITS)),
+        1 => (&mut site.parents, OF_8_BITS),
+        2 => (&mut site.capacities, OF_16_BITS),
+        3 => (&mut site.gaps, OF_16_BITS),
+        4 => (&mut site.offsets, OF_16_BITS),
+        5 => (&mut site.periods, OF_16_BITS),
+        6 => (&mut site.states, OF_8_BITS),
+        7 => (&mut site.entries, OF_8_BITS),
+        8 => (&mut site.rates, OF_8_BITS),
+        9 => (&mut site.deadlines, OF_16_BITS),
+        _ => return None,
+    };
+    let value = list.get_mut(usize::try_from(index).ok()?)?;
+    Some((value, largest))
+}
+
+fn set_entry(site: &mut Site, field: u64, index: u64, value: u64) {
+    if let Some((old, largest)) = entry(site, field, index) {
+        if value <= largest {
+            *old = value;
+        }
+    }
+}
+
+fn altered_line(site: &mut Site, line: &str) -> Result<String, String> {
+    if let Some(plan) = line.strip_prefix('P') {
+        *site = read_plan(&bytes_of_hex(plan)?).unwrap_or(Site::empty());
+        return Ok(String::new());
+    }
+    let numbers = numbers(line)?;
+    let room = *numbers.first().ok_or("no room")? as usize;
+    let room = at_most(room, 64, "bytes of room")?;
+    let mut altered = site.clone();
+    for triple in numbers[1..].chunks_exact(3) {
+        set_entry(&mut altered, triple[0], triple[1], triple[2]);
+    }
+    Ok(altered_answers(&altered, room))
+}
+
+fn altered_answers(site: &Site, room: usize) -> String {
+    let passes = if passes_check_14(site) {
+        "passes"
+    } else {
+        "does not pass"
+    };
+    let mut slice: Vec<u8> = (100..).take(room).collect();
+    let plan = length_or_refusal(write_plan(site, &mut slice));
+    let after_plan = hex(&slice);
+    let schedule = length_or_refusal(write_schedule(site, &mut slice));
+    let after_schedule = hex(&slice);
+    format!("{passes}, plan {plan}:{after_plan}, schedule {schedule}:{after_schedule}\n")
+}
+
+fn decimal(list: &[u64]) -> String {
+    list.iter().map(|number| format!(" {number}")).collect()
+}
+
+fn deals_line(line: &str) -> Result<String, String> {
+    let numbers = numbers(line)?;
+    let [offsets, periods, gaps @ ..] = numbers.as_slice() else {
+        return Err("no two lengths".to_string());
+    };
+    at_most(gaps.len(), 66, "gaps")?;
+    let mut offsets: Vec<u64> = (500..)
+        .take(at_most(*offsets as usize, 66, "offsets")?)
+        .collect();
+    let mut periods: Vec<u64> = (700..)
+        .take(at_most(*periods as usize, 66, "periods")?)
+        .collect();
+    let answer = slot_rule(gaps, &mut offsets, &mut periods)
+        .map_or_else(refused, |base| format!("base {base}"));
+    let (offsets, periods) = (decimal(&offsets), decimal(&periods));
+    Ok(format!("{answer} offsets{offsets} periods{periods}\n"))
+}
+
+#[cfg(test)]
+mod tests {
+    use super::*;
+    use crate::rules::{FLOW_NUMBERS, MOST_LINKS};
+
+    const PLAN_P: &str =
+        "01 00 14 00 04 00 01 00 14 00 06 00 01 01 09 00 03 00 02 00 03 03 07 00 FF";
+
+    fn printed(program: &str, input: &str) -> String {
+        output(program, input.as_bytes()).unwrap()
+    }
+
+    #[test]
+    fn slotplan_prints_plan_p_as_marked() {
+        let expected = "link 1 parent 0 base 4 offset 0 period 4\n\
+            link 2 parent 0 base 4 offset 1 period 4\n\
+            link 3 parent 1 base 3 offset 0 period 3\n\
+            flow 0 node 3 rate 3 deadline 7 bound 7\n\
+            accepted links 3 flows 1\n";
+        assert_eq!(slotplan(&bytes_of_hex(PLAN_P).unwrap()), expected);
+        assert_eq!(slotplan(&[]), "refused 2 0\n");
+    }
+
+    #[test]
+    fn vectors_prints_comments_refusals_and_schedules() {
+        let input = format!("# a remark\n\n{PLAN_P}\n");
+        let expected = "# a remark\nrefused 2 0\naccepted links 3 plan 25 equal schedule 19 \
+            11 01 00 00 04 00 11 02 01 00 04 00 11 03 00 00 03 00 FF\n";
+        assert_eq!(printed("test_vectors", &input), expected);
+    }
+
+    #[test]
+    fn altered_starts_from_the_plan_in_each_line() {
+        let input =
+            format!("P {PLAN_P}\n0 2 0 12\n2 4 1 2\n0 2 0 11\n0 10 0 1 1 63 1 8 0 256 6 0\n");
+        let answers = [
+            "passes, plan refused 1 0:, schedule refused 1 0:\n",
+            "does not pass, plan refused 14 0: 64 65, schedule refused 14 0: 64 65\n",
+            "does not pass, plan refused 14 0:, schedule refused 14 0:\n",
+            "passes, plan refused 1 0:, schedule refused 1 0:\n",
+        ];
+        assert_eq!(printed("test_altered", &input), answers.concat());
+    }
+
+    #[test]
+    fn altered_prints_what_the_first_writer_left() {
+        let plan = "01 00 14 00 04 00 FF";
+        let input = format!("1\nP {plan}\n8\n");
+        let expected = "passes, plan refused 9 0: 64, schedule refused 9 0: 64\n\
+            passes, plan 7: 01 00 14 00 04 00 FF 6B, schedule 7: 11 01 00 00 04 00 FF 6B\n";
+        assert_eq!(printed("test_altered", &input), expected);
+    }
+
+    #[test]
+    fn deals_prints_both_lists() {
+        let input = "2 2 6 3\n1 2 6 3\n2 2 1 1024\n0 0\n";
+        let expected = "base 3 offsets 1 0 periods 6 3\n\
+            refused 1 0 offsets 500 periods 700 701\n\
+            refused 11 0 offsets 500 501 periods 700 701\n\
+            refused 5 0 offsets periods\n";
+        assert_eq!(printed("test_deals", input), expected);
+    }
+
+    #[test]
+    fn every_entry_of_a_site_can_be_altered() {
+        for field in 0..10 {
+            let length = match field {
+                0 => 1,
+                1..=5 => MOST_LINKS as u64,
+                _ => FLOW_NUMBERS as u64,
+            };
+            let mut site = Site::empty();
+            set_entry(&mut site, field, length - 1, 255);
+            assert_ne!(site, Site::empty());
+            let before = site.clone();
+            set_entry(&mut site, field.max(1), FLOW_NUMBERS as u64, 1);
+            set_entry(&mut site, field, length - 1, 65_536);
+            assert_eq!(site, before);
+        }
+    }
+}

@@ -1,0 +1,209 @@
+//! Random plans: sound ones, some with a parent, link or flow just beyond its rule.
+
+use crate::bytes::{flow_command, node_command};
+use crate::random::Random;
+use crate::random_gaps::{doubtful_gaps, fitting_gaps, roomy_gaps};
+use crate::rules::{
+    children, route, CAPACITIES, DEADLINES, FLOW_NUMBERS, MOST_DEPTH, MOST_LINKS, RATES,
+};
+
+struct Flow {
+    number: u64,
+    entry: usize,
+    rate: u64,
+    deadline: u64,
+}
+
+/// A plan before it is written as bytes. It may have more nodes or levels than 01 allows.
+struct Draft {
+    parents: Vec<u64>,
+    capacities: Vec<u64>,
+    gaps: Vec<u64>,
+    flows: Vec<Flow>,
+}
+
+/// How the nodes of a tree are hung up.
+#[derive(Clone, Copy)]
+enum Habit {
+    Anywhere,
+    Deep,
+    UnderTheRoot,
+}
+
+/// The commands of a random plan, without END.
+pub fn random_commands(random: &mut Random) -> Vec<Vec<u8>> {
+    let links = random_link_count(random);
+    let parents = random_tree(random, links);
+    let mut draft = Draft {
+        capacities: vec![0; links],
+        gaps: vec![0; links],
+        parents,
+        flows: Vec::new(),
+    };
+    let doubtful = random.chance(12);
+    draft.choose_gaps(random, doubtful);
+    draft.choose_flows(random);
+    draft.choose_capacities(random);
+    if random.chance(10) {
+        draft.overfill_a_link(random);
+    }
+    if random.chance(12) {
+        draft.delay_flows(random);
+    }
+    draft.commands()
+}
+
+fn random_link_count(random: &mut Random) -> usize {
+    match random.between(0, 99) {
+        0..=49 => 1 + random.index(6),
+        50..=84 => 6 + random.index(8),
+        85..=91 => 17 + random.index(MOST_LINKS - 17),
+        92..=94 => MOST_LINKS,
+        _ => MOST_LINKS + 1 + random.index(2),
+    }
+}
+
+fn random_tree(random: &mut Random, links: usize) -> Vec<u64> {
+    let habits = [Habit::Anywhere, Habit::Deep, Habit::UnderTheRoot];
+    let habit = random.pick(&habits);
+    let levels = if random.chance(20) {
+        MOST_DEPTH + 2
+    } else {
+        MOST_DEPTH
+    };
+    let mut parents = Vec::new();
+    for _ in 0..links {
+        let parent = random_parent(random, &parents, habit, levels);
+        parents.push(parent as u64);
+    }
+    parents
+}
+
+fn random_parent(random: &mut Random, parents: &[u64], habit: Habit, levels: usize) -> usize {
+    let newest = parents.len();
+    let possible: Vec<usize> = (0..=newest)
+        .filter(|&node| route(parents, node).len() < levels)
+        .collect();
+    match habit {
+        Habit::Deep if possible.contains(&newest) && random.chance(80) => newest,
+        Habit::UnderTheRoot if random.chance(85) => 0,
+        _ => random.pick(&possible),
+    }
+}
+
+/// Numbers 0 to 63 in rising order, some of them or all.
+fn random_flow_numbers(random: &mut Random) -> Vec<u64> {
+    let count = match random.between(0, 99) {
+        0..=19 => 0,
+        20..=69 => 1 + random.index(4),
+        70..=89 => 5 + random.index(16),
+        _ => FLOW_NUMBERS,
+    };
+    let mut numbers: Vec<u64> = (0..FLOW_NUMBERS as u64).collect();
+    random.shuffle(&mut numbers);
+    numbers.truncate(count);
+    numbers.sort();
+    numbers
+}
+
+/// At least `least`, which is often taken itself, and within the limit.
+fn at_least(random: &mut Random, least: u64, limit: u64) -> u64 {
+    match random.between(0, 9) {
+        0..=3 => least,
+        4..=6 => random.between(least, (least + 20).min(limit)),
+        7 => limit,
+        _ => random.between(least, limit),
+    }
+}
+
+impl Draft {
+    fn choose_gaps(&mut self, random: &mut Random, doubtful: bool) {
+        for parent in 0..=self.parents.len() {
+            let children = children(&self.parents, parent);
+            if children.is_empty() {
+                continue;
+            }
+            let gaps = match random.between(0, 9) {
+                0..=4 if doubtful => doubtful_gaps(random, children.len()),
+                0..=6 => fitting_gaps(random, children.len()),
+                _ => roomy_gaps(random, children.len()),
+            };
+            for (node, gap) in children.into_iter().zip(gaps) {
+                self.gaps[node - 1] = gap;
+            }
+        }
+    }
+
+    fn reserved(&self) -> Vec<u64> {
+        let mut reserved = vec![0; self.parents.len()];
+        for flow in &self.flows {
+            for link in route(&self.parents, flow.entry) {
+                reserved[link - 1] += flow.rate * self.gaps[link - 1];
+            }
+        }
+        reserved
+    }
+
+    fn wanted_gaps(&self, entry: usize) -> u64 {
+        let links = route(&self.parents, entry);
+        links.iter().map(|link| self.gaps[link - 1]).sum()
+    }
+
+    /// A flow that would bring a link above the largest capacity is left out, but for a few.
+    fn choose_flows(&mut self, random: &mut Random) {
+        for number in random_flow_numbers(random) {
+            let most = random.pick(&[1, 3, 3, 40, *RATES.end()]);
+            let entry = 1 + random.index(self.parents.len());
+            let least = self.wanted_gaps(entry).min(*DEADLINES.end());
+            let flow = Flow {
+                number,
+                entry,
+                rate: random.between(1, most),
+                deadline: at_least(random, least, *DEADLINES.end()),
+            };
+            self.flows.push(flow);
+            let too_much = |&reserved: &u64| reserved > *CAPACITIES.end();
+            if self.reserved().iter().any(too_much) && random.chance(99) {
+                self.flows.pop();
+            }
+        }
+    }
+
+    fn choose_capacities(&mut self, random: &mut Random) {
+        let most = *CAPACITIES.end();
+        for (index, reserved) in self.reserved().into_iter().enumerate() {
+            self.capacities[index] = at_least(random, reserved.clamp(1, most), most);
+        }
+    }
+
+    /// One packet less than is reserved, on one link or several.
+    fn overfill_a_link(&mut self, random: &mut Random) {
+        let reserved = self.reserved();
+        let mut full: Vec<usize> = (0..reserved.len())
+            .filter(|&index| (2..=*CAPACITIES.end()).contains(&reserved[index]))
+            .collect();
+        random.shuffle(&mut full);
+        full.truncate(random.pick(&[1, 1, 3]));
+        for index in full {
+            self.capacities[index] = reserved[index] - 1;
+        }
+    }
+
+    /// One slot less than the wanted gaps, for one flow or several.
+    fn delay_flows(&mut self, random: &mut Random) {
+        for _ in 0..random.pick(&[1, 1, 3]).min(self.flows.len()) {
+            let index = random.index(self.flows.len());
+            let sum = self.wanted_gaps(self.flows[index].entry);
+            self.flows[index].deadline = (sum - 1).max(1);
+        }
+    }
+
+    fn commands(&self) -> Vec<Vec<u8>> {
+        let nodes = self.parents.iter().zip(&self.capacities).zip(&self.gaps);
+        let nodes = nodes.map(|((&parent, &capacity), &gap)| node_command(parent, capacity, gap));
+        let flows = self.flows.iter();
+        let flows = flows
+            .map(|flow| flow_command(flow.number, flow.entry as u64, flow.rate, flow.deadline));
+        nodes.chain(flows).collect()
+    }
+}
