@@ -9,14 +9,16 @@ use Rattle.site.specs.Tree.{up, depthIn, depthOf, climb, route, has}
 use Rattle.site.specs.Schedule.{used, gapsFrom, gapsUnder, rank, dealtUnder, baseOf, baseUnder, crowded, firstCrowded}
 use Rattle.site.specs.Schedule.{entryDealt, listed, offsetsDealt, periodsDealt, scheduled}
 use Rattle.site.specs.Reservations.{gapsJudged, routeOf, widthAt, widthOn, sumTo, load, over, firstOver, along, late, firstLate}
-use Rattle.site.specs.Judge.{reserved, judgeOf}
-use Rattle.plan.specs.Bytes.{numberAt, bytesOf}
-use Rattle.plan.specs.Read.{nodeAt, flowAt, badNode, badFlow, nodeLimits, flowLimits, nodeFault, flowFault, known, fault}
-use Rattle.plan.specs.Read.{withNode, nodeAdded, flowAdded, after, endOf, decodeFrom, decode, judgeForm, readOf}
-use Rattle.plan.specs.Write.{linkBytes, joined, scheduleBytes, written, siteFault, writtenIf}
-use Rattle.plan.specs.Check.{shaped, nodeOf, flowOf, illNode, illFlow, formed, same, accepts, stands, passesOf}
+use Rattle.site.specs.Judge.{withSite, reserved, judgeOf}
+use Rattle.limits.specs.Limits.{badNode, badFlow, nodeLimits, misplaced, flowLimits}
+use Rattle.format.specs.Commands.{sizeOf}
+use Rattle.format.specs.Bytes.{numberAt, bytesOf}
+use Rattle.reader.specs.Read.{nodeAt, flowAt, nodeFault, flowFault, fault}
+use Rattle.reader.specs.Read.{withNode, nodeAdded, flowAdded, after, endOf, decodeFrom, decode, judgeForm, readOf}
+use Rattle.writer.specs.Write.{linkBytes, joined, scheduleBytes, written, siteFault, writtenIf}
+use Rattle.limits.specs.Check.{shaped, nodeOf, flowOf, illNode, illFlow, illAt, firstIll, formed, same, accepts, stands, passesOf}
 use Rattle.marked.specs.Table.{All, table}
 
 pub table-holds : All table
-unfolding last first any total largest least smallest exponent period sum limit fits base periodsOf sends earlier taken freeOffset turn level levels offsetsFor offsetsOf badGap firstBad dealt ofLink live withFlow withSchedule up depthIn depthOf climb route has used gapsFrom gapsUnder rank dealtUnder baseOf baseUnder crowded firstCrowded entryDealt listed offsetsDealt periodsDealt scheduled gapsJudged routeOf widthAt widthOn sumTo load over firstOver along late firstLate reserved judgeOf numberAt bytesOf nodeAt flowAt badNode badFlow nodeLimits flowLimits nodeFault flowFault known fault withNode nodeAdded flowAdded after endOf decodeFrom decode judgeForm readOf linkBytes joined scheduleBytes written siteFault writtenIf shaped nodeOf flowOf illNode illFlow formed same accepts stands passesOf
+unfolding last first any total largest least smallest exponent period sum limit fits base periodsOf sends earlier taken freeOffset turn level levels offsetsFor offsetsOf badGap firstBad dealt ofLink live withFlow withSchedule up depthIn depthOf climb route has used gapsFrom gapsUnder rank dealtUnder baseOf baseUnder crowded firstCrowded entryDealt listed offsetsDealt periodsDealt scheduled gapsJudged routeOf widthAt widthOn sumTo load over firstOver along late firstLate withSite reserved judgeOf numberAt bytesOf nodeAt flowAt badNode badFlow nodeLimits misplaced flowLimits nodeFault flowFault sizeOf fault withNode nodeAdded flowAdded after endOf decodeFrom decode judgeForm readOf linkBytes joined scheduleBytes written siteFault writtenIf shaped nodeOf flowOf illNode illFlow illAt firstIll formed same accepts stands passesOf
 table-holds = (refl, (refl, (refl, (refl, (refl, (refl, (refl, (refl, (refl, tt)))))))))
