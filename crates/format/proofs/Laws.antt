@@ -12,7 +12,7 @@ use borrow.Author.Tests.{eq-eqb, ne-eqb}
 use native.Mathlib.Decide.{ℕ-discrete}
 use native.Mathlib.Numerals.{add-one}
 use native.Mathlib.Omega.{arith}
-use Rattle.format.specs.Commands.{sizeOf}
+use Rattle.format.specs.Commands.{sizeOf, scheduleSize}
 use Rattle.format.specs.Bytes.{numberAt, bytesOf}
 use Rattle.format.specs.Words.{Bytes}
 
@@ -77,6 +77,14 @@ module _ (tag : ℕ) where
   pub size-none : (tag ≡ 1 → ⊥) → (tag ≡ 2 → ⊥) → 0 ≡ sizeOf tag
   unfolding sizeOf
   size-none n m = simp (ne-eqb _ _ n, ne-eqb _ _ m)
+
+  pub size-link : tag ≡ 17 → 6 ≡ scheduleSize tag
+  unfolding scheduleSize
+  size-link e = simp (eq-eqb _ _ e)
+
+  pub size-no-link : (tag ≡ 17 → ⊥) → 0 ≡ scheduleSize tag
+  unfolding scheduleSize
+  size-no-link n = simp (ne-eqb _ _ n)
 
   -- No command has more than six bytes.
   pub size-most : sizeOf tag ≤ 6

@@ -7,6 +7,6 @@ use lib.Dec.{eqb}
 unfoldable pub sizeOf : ℕ → ℕ
 sizeOf tag = cond (eqb tag 1) 6 (cond (eqb tag 2) 6 0)
 
--- LINK, 11 in hexadecimal, has operands of 8, 16 and 16 bits and stands in schedules only.
-unfoldable pub linkSize : ℕ
-linkSize = 6
+-- The same for schedules: LINK, 11 in hexadecimal, has operands of 8, 16 and 16 bits.
+unfoldable pub scheduleSize : ℕ → ℕ
+scheduleSize tag = cond (eqb tag 17) 6 0

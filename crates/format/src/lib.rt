@@ -1,7 +1,7 @@
 // How commands stand in bytes: their sizes, and numbers of 16 bits with the low byte first. The reader and the writers go by it.
 ghost use mathlib.Core.Path.{_≡_};
 ghost use Prim.Native.Nat.{_+_, _*_, _/_, _%_};
-ghost use Rattle.format.specs.Commands.{sizeOf, linkSize};
+ghost use Rattle.format.specs.Commands.{sizeOf, scheduleSize};
 
 // How many bytes a command of a plan takes, its own byte among them; 0 for a byte that is none. END is judged apart.
 pub fn size(tag: u8) -> usize
@@ -16,11 +16,14 @@ pub fn size(tag: u8) -> usize
     0
 }
 
-// How many bytes a LINK of a schedule takes.
-pub fn link_size() -> usize
-    ensures { λ r. ⌜ r ≡ linkSize ⌝ }
+// The same for a schedule, whose only such command is LINK.
+pub fn schedule_size(tag: u8) -> usize
+    ensures { λ r. ⌜ r ≡ scheduleSize tag ⌝ }
 {
-    6
+    if tag == 17 {
+        return 6;
+    }
+    0
 }
 
 // The number of two bytes.

@@ -42,14 +42,14 @@ All (row ∷ rows) = Holds row × All rows
 abbrev pub table : List Row
 table =
     deals (4 ∷ 6 ∷ 6 ∷ 6 ∷ 6 ∷ []) (21 ∷ 22 ∷ 23 ∷ 24 ∷ 25 ∷ []) (31 ∷ 32 ∷ 33 ∷ 34 ∷ 35 ∷ [])
-        (accepted 3, (0 ∷ 1 ∷ 2 ∷ 4 ∷ 5 ∷ []), (3 ∷ 6 ∷ 6 ∷ 6 ∷ 6 ∷ [])) ∷
+    (accepted 3, (0 ∷ 1 ∷ 2 ∷ 4 ∷ 5 ∷ []), (3 ∷ 6 ∷ 6 ∷ 6 ∷ 6 ∷ [])) ∷
     deals (6 ∷ 3 ∷ []) (21 ∷ 22 ∷ []) (31 ∷ 32 ∷ []) (accepted 3, (1 ∷ 0 ∷ []), (6 ∷ 3 ∷ [])) ∷
     deals (2 ∷ 3 ∷ []) (21 ∷ 22 ∷ []) (31 ∷ 32 ∷ []) (accepted 2, (0 ∷ 1 ∷ []), (2 ∷ 2 ∷ [])) ∷
     deals (2 ∷ 3 ∷ 1024 ∷ []) (21 ∷ 22 ∷ 23 ∷ []) (31 ∷ 32 ∷ 33 ∷ []) (refused 11 0, (21 ∷ 22 ∷ 23 ∷ []), (31 ∷ 32 ∷ 33 ∷ [])) ∷
     deals (1 ∷ []) (21 ∷ []) (31 ∷ []) (accepted 1, (0 ∷ []), (1 ∷ [])) ∷
     -- Equation (21) of source document 001 serves these: the reduction to one integer does not find every schedule.
     deals (4 ∷ 4 ∷ 6 ∷ 6 ∷ 6 ∷ []) (21 ∷ 22 ∷ 23 ∷ 24 ∷ 25 ∷ []) (31 ∷ 32 ∷ 33 ∷ 34 ∷ 35 ∷ [])
-        (refused 11 0, (21 ∷ 22 ∷ 23 ∷ 24 ∷ 25 ∷ []), (31 ∷ 32 ∷ 33 ∷ 34 ∷ 35 ∷ [])) ∷
+    (refused 11 0, (21 ∷ 22 ∷ 23 ∷ 24 ∷ 25 ∷ []), (31 ∷ 32 ∷ 33 ∷ 34 ∷ 35 ∷ [])) ∷
     schedules (planP 9 7) (17 ∷ 1 ∷ 0 ∷ 0 ∷ 4 ∷ 0 ∷ 17 ∷ 2 ∷ 1 ∷ 0 ∷ 4 ∷ 0 ∷ 17 ∷ 3 ∷ 0 ∷ 0 ∷ 3 ∷ 0 ∷ 255 ∷ []) ∷
     reads (planP 9 6) (refused 13 0, emptySite) ∷
     reads (planP 8 7) (refused 12 3, emptySite) ∷

@@ -81,7 +81,7 @@ fn print_accepted(site: Site) {
 }
 
 // Reads the bytes as a plan and prints its links, its flows and their numbers, or the refusal.
-pub fn print_plan(bytes: &[u8]) {
+fn print_plan(bytes: &[u8]) {
     let read = reader::read_plan(bytes);
     let verdict = read.verdict;
     match verdict {

@@ -42,14 +42,16 @@ use Rattle.site.proofs.Laws.Slots.{placed, slot, sends-in, along-rises}
 pub children-gaps : (s : Site) → s .links ≤ 63 → (p : ℕ) → (nodes : List ℕ) × Children s p nodes (gapsUnder s p)
 unfolding gapsUnder used ofLink
 children-gaps s few p =
-    let w = among (s .parents) (s .gaps) p (used (s .links)) 0 in
-    (w .0, record {
-      long = w .1 .long;
-      child = λ k l. let c = w .1 .child k l in (omega (arith, c .0), omega (arith, c .1), c .2);
-      rising = w .1 .rising;
-      all = all (w .0) (w .1);
-      wanted = w .1 .wanted;
-    })
+    let w = among (s .parents) (s .gaps) p (used (s .links)) 0 in (
+      w .0,
+      record {
+        long = w .1 .long;
+        child = λ k l. let c = w .1 .child k l in (omega (arith, c .0), omega (arith, c .1), c .2);
+        rising = w .1 .rising;
+        all = all (w .0) (w .1);
+        wanted = w .1 .wanted;
+      },
+    )
   where
     all : (nodes : List ℕ) → Among (s .parents) (s .gaps) p (used (s .links)) 0 nodes (gapsFrom (s .parents) (s .gaps) p (used (s .links)) 0)
         → (n : ℕ) → 1 ≤ n → n ≤ s .links → ofLink (s .parents) n ≡ p → (k : ℕ) × (k < length nodes) × (getD nodes k 0 ≡ n)

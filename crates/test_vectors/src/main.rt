@@ -1,8 +1,8 @@
 // Reads plans from standard input, each on a line in hexadecimal, and prints for each the refusal, or how its plan and its schedule are written.
 // A line that begins with `#` is printed as it stands.
-use writer::Written;
 use site::Site;
 use site::Verdict;
+use writer::Written;
 
 fn equal(a: &[u8], b: &[u8]) -> bool {
     let n = a.len();

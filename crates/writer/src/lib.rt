@@ -153,7 +153,7 @@ fn put_links(links: u8, offsets: [u16; 63], periods: [u16; 63], out: &mut [u8]) 
     while i < n {
         let command = link_command(offsets, periods, i);
         put(out, at, &command);
-        at += format::link_size();
+        at += format::schedule_size(17);
         i += 1;
     }
     at
@@ -164,7 +164,7 @@ fn put_schedule(links: u8, offsets: [u16; 63], periods: [u16; 63], out: &mut [u8
     requires { ⌜ links ≤ 63 ⌝ }
     ensures { λ r. ⌜ (writing r, now (out .exit)) ≡ written (scheduleBytes links offsets periods) (now (out .entry)) ⌝ }
 {
-    let size = format::link_size() * links as usize + 1;
+    let size = format::schedule_size(17) * links as usize + 1;
     if out.len() < size {
         return Written::Refused(1, 0);
     }

@@ -46,16 +46,4 @@ returns c = search needs
 pub deal-often-spec : {M : Type 1} → statement M
 deal-often-spec =
     tie.close
-    (tie.spec
-    Inv-loop
-    μ-loop
-    loop-holds
-    deal-requires
-    base-of-requires
-    add-sum
-    add-round
-    loop-less
-    loop-again
-    same-length
-    same-length-2
-    returns)
+    (tie.spec Inv-loop μ-loop loop-holds deal-requires base-of-requires add-sum add-round loop-less loop-again same-length same-length-2 returns)

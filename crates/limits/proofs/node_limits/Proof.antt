@@ -1,4 +1,4 @@
--- `node_limits` asks in the order of the checks; the capacity's upper limit is its type's.
+-- Right because the limits are asked in the order of the definition; the upper one of the capacity holds by its type.
 use borrow.Author.Needs.{needs}
 use Prim.Native.Nat.{_≤_}
 use mathlib.Core.Path.{_≡_}
@@ -47,12 +47,4 @@ returns-6 c = node-passes _ _ _ (good (c .before .before .before .before .before
 pub node-limits-spec : {M : Type 1} → statement M
 node-limits-spec =
     tie.close
-    (tie.spec
-    returns
-    returns-2
-    returns-3
-    returns-4
-    slice-aggregate-depth
-    depth-requires
-    returns-5
-    returns-6)
+    (tie.spec returns returns-2 returns-3 returns-4 slice-aggregate-depth depth-requires returns-5 returns-6)

@@ -1,5 +1,4 @@
--- `deal` answers as the first failing check says. Past them all the base fits, so that each child finds a free offset,
--- and nothing was written before.
+-- Right because each return is that of the first failing check, and past them all the base fits, so that each child finds a free offset; nothing is written before.
 use borrow.Author.Needs.{needs}
 use Prim.Native.Nat.{_≤_}
 use mathlib.Core.Path.{_≡_, sym, _∙_, ap}
@@ -100,17 +99,4 @@ returns-7 c =
 pub deal-spec : {M : Type 1} → statement M
 deal-spec =
     tie.close
-    (tie.spec
-    returns
-    returns-2
-    returns-3
-    returns-4
-    first-bad-requires
-    returns-5
-    largest-fitting-requires
-    returns-6
-    fill-requires
-    fill-requires-2
-    same-length
-    same-length-2
-    returns-7)
+    (tie.spec returns returns-2 returns-3 returns-4 first-bad-requires returns-5 largest-fitting-requires returns-6 fill-requires fill-requires-2 same-length same-length-2 returns-7)

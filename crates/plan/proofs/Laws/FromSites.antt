@@ -248,6 +248,10 @@ module _ (s : Site) (g : Formed s) (bytes : List ℕ) where
       (m : ℕ) × (last : ℕ) × (decodeOn bytes at (draft s (s .links) n next) ≡ decodeOn bytes m (draft s (s .links) 64 last))
       × (m ≤ length bytes) × (drop m bytes ≡ rest) × NextUpto s 64 last
 
+  onward : (n next at k more m : ℕ) (rest : List ℕ)
+      → decodeOn bytes at (draft s (s .links) n next) ≡ decodeOn bytes m (draft s (s .links) k more) → FlowsRead k more m rest → FlowsRead n next at rest
+  onward n next at k more m rest e (i, last, q, l, r, w) = (i, last, e ∙ q, l, r, w)
+
   -- r numbers are left.
   flows-read : (r n next at : ℕ) (rest : List ℕ) → n + r ≡ 64 → NextUpto s n next → at ≤ length bytes
       → drop at bytes ≡ joined (flowIfLive s) r n ++ rest → FlowsRead n next at rest
@@ -271,8 +275,8 @@ module _ (s : Site) (g : Formed s) (bytes : List ℕ) where
       go (inr f) ih =
           let there = rw (← live-bytes s n (f .live)) at here in
           let v = flow-step n next at after-n (omega arith) (w .most) f there in
-          let u = ih (n + 1) (at + 6) rest (omega arith) (next-live s n next f w) (flow-inside n at after-n there) (v .1) in
-          (u .0, u .1, v .0 ∙ u .2, u .3, u .4, u .5)
+          onward n next at (n + 1) (n + 1) (at + 6) rest (v .0)
+          (ih (n + 1) (at + 6) rest (omega arith) (next-live s n next f w) (flow-inside n at after-n there) (v .1))
 
   -- From the node at index k on, with r nodes left.
   nodes-read : (r k at : ℕ) (rest : List ℕ) → k + r ≡ s .links → at ≤ length bytes → drop at bytes ≡ joined (nodeBytes s) r k ++ rest
@@ -291,9 +295,7 @@ pub begun-read : (bytes : List ℕ) (at : ℕ) (s : Site) → Formed s → at �
 unfolding commandBytes
 begun-read bytes at s g within are =
     let all : bytes ≡ commandBytes s ++ drop at bytes = sym (take-append-drop at bytes) ∙ ap (λ (l : List ℕ). l ++ drop at bytes) are in
-    let v = nodes-read s g bytes (s .links) 0 0 (flows ++ drop at bytes) (omega arith) (omega arith) (all ∙ append-assoc nodes flows (drop at bytes)) in
-    let u = flows-read s g bytes 64 0 0 (v .0) (drop at bytes) (omega arith) none (v .2) (v .3) in
-    (u .1, start ∙ v .1 ∙ u .2 ∙ rw (part-all s g, same (u .0) (u .3) (u .4)), next-all (u .1) (u .5))
+    from-nodes (nodes-read s g bytes (s .links) 0 0 (flows ++ drop at bytes) (omega arith) (omega arith) (all ∙ append-assoc nodes flows (drop at bytes)))
   where
     nodes : List ℕ
     nodes = joined (nodeBytes s) (s .links) 0
@@ -312,3 +314,12 @@ begun-read bytes at s g within are =
 
     next-all : (next : ℕ) → NextUpto s 64 next → NextOf s next
     next-all next w = record { above = λ n l. w .above n (live-few s g n l) l; top = w .top }
+
+    from-flows : (m : ℕ) → decode bytes ≡ decodeOn bytes m (draft s (s .links) 0 0) → FlowsRead s g bytes 0 0 m (drop at bytes)
+        → (next : ℕ) × (decode bytes ≡ decodeOn bytes at (record { site = withSchedule s zeros zeros; next = next })) × NextOf s next
+    from-flows m h (k, next, q, l, r, w) = (next, h ∙ q ∙ rw (part-all s g, same k l r), next-all next w)
+
+    from-nodes : (m : ℕ) × (decodeOn bytes 0 (draft s 0 0 0) ≡ decodeOn bytes m (draft s (s .links) 0 0)) × (m ≤ length bytes)
+        × (drop m bytes ≡ flows ++ drop at bytes)
+        → (next : ℕ) × (decode bytes ≡ decodeOn bytes at (record { site = withSchedule s zeros zeros; next = next })) × NextOf s next
+    from-nodes (m, q, l, r) = from-flows m (start ∙ q) (flows-read s g bytes 64 0 0 m (drop at bytes) (omega arith) none l r)

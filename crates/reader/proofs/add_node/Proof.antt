@@ -33,12 +33,4 @@ returns c = refl
 pub add-node-spec : {M : Type 1} → statement M
 add-node-spec =
     tie.close
-    (tie.spec
-    cast-i
-    element-write-site
-    mul-site
-    element-write-site-2
-    mul-site-2
-    element-write-site-3
-    add-site
-    returns)
+    (tie.spec cast-i element-write-site mul-site element-write-site-2 mul-site-2 element-write-site-3 add-site returns)

@@ -37,11 +37,4 @@ returns-2 c =
 pub after-command-spec : {M : Type 1} → statement M
 after-command-spec =
     tie.close
-    (tie.spec
-    shared-slice-read-if1
-    node-at-requires
-    add-node-requires
-    returns
-    flow-at-requires
-    add-flow-requires
-    returns-2)
+    (tie.spec shared-slice-read-if1 node-at-requires add-node-requires returns flow-at-requires add-flow-requires returns-2)

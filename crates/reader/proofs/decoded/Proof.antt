@@ -1,5 +1,5 @@
--- Right because the reading from `at` on has the answer of the whole; length bytes - at falls, since a command that passes has bytes and lies
--- within them.
+-- Right because the reading from `at` on has the answer of the whole; length bytes - at falls, since a command that passes has bytes and lies within
+-- them.
 use borrow.Author.Needs.{needs}
 use Prim.Native.Nat.{ℕ, _+_, _-_, _≤_}
 use mathlib.Core.Path.{_≡_, sym, _∙_, ap}

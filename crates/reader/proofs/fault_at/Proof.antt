@@ -53,15 +53,4 @@ returns-4 c =
 pub fault-at-spec : {M : Type 1} → statement M
 fault-at-spec =
     tie.close
-    (tie.spec
-    shared-slice-read-tag
-    size-requires
-    sub-left
-    returns
-    returns-2
-    node-at-requires
-    node-fault-requires
-    returns-3
-    flow-at-requires
-    flow-limits-requires
-    returns-4)
+    (tie.spec shared-slice-read-tag size-requires sub-left returns returns-2 node-at-requires node-fault-requires returns-3 flow-at-requires flow-limits-requires returns-4)

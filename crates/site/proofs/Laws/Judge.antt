@@ -94,9 +94,11 @@ module _ (s : Site) (few : s .links ≤ 63) where
       λ w. let f = first-found (crowded s) (used (s .links) + 1) p .0 w in
           let c = crowded-parent s g p (f .1) in
           record { parent = (omega (arith, f .0), c .0); none = c .1; lower = λ q l. parent-served q (f .2 q l) },
-      λ w. first-found (crowded s) (used (s .links) + 1) p .1
-          (omega (arith, w .parent .0), parent-crowded s g p (w .parent .1) (w .none),
-          λ q l. served-parent q (omega (arith, w .parent .0)) (w .lower q l)),
+      λ w. first-found (crowded s) (used (s .links) + 1) p .1 (
+        omega (arith, w .parent .0),
+        parent-crowded s g p (w .parent .1) (w .none),
+        λ q l. served-parent q (omega (arith, w .parent .0)) (w .lower q l),
+      ),
     )
 
   -- A link by its number and by its index.

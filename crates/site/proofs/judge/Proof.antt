@@ -1,4 +1,4 @@
--- `judge` gives 11 where a parent is crowded; otherwise the lists dealt are the whole schedule, and 12 and 13 are judged with it.
+-- Right because a crowded parent gives 11, and where there is none the lists dealt are the whole schedule, with which 12 and 13 are judged.
 use borrow.Author.Needs.{needs}
 use Prim.Native.Nat.{_<_}
 use mathlib.Core.Path.{_∙_}
@@ -38,10 +38,4 @@ returns-2 c =
 pub judge-spec : {M : Type 1} → statement M
 judge-spec =
     tie.close
-    (tie.spec
-    deal-all-requires
-    link-count-requires
-    refusal-requires
-    returns
-    judge-reservations-requires
-    returns-2)
+    (tie.spec deal-all-requires link-count-requires refusal-requires returns judge-reservations-requires returns-2)

@@ -1,4 +1,4 @@
--- `judge_reservations` refuses the first link that is over, then the first flow that is late, and passes on the site itself where there is neither.
+-- Right because 12 is asked before 13, each of the first that a search found, and the site goes on as it is where neither fails.
 use borrow.Author.Needs.{needs}
 use mathlib.Core.Path.{_∙_}
 use Rattle.site.proofs.Laws.Rulings.{refuse-over, refuse-late, accept-reserved}
@@ -43,13 +43,4 @@ returns-3 c =
 pub judge-reservations-spec : {M : Type 1} → statement M
 judge-reservations-spec =
     tie.close
-    (tie.spec
-    link-count-requires
-    first-over-requires
-    first-late-requires
-    add-refusal
-    refusal-requires
-    returns
-    refusal-requires-2
-    returns-2
-    returns-3)
+    (tie.spec link-count-requires first-over-requires first-late-requires add-refusal refusal-requires returns refusal-requires-2 returns-2 returns-3)

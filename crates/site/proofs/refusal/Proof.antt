@@ -1,4 +1,4 @@
--- `refusal` gives the empty site beside the number and the place.
+-- Right because the empty site stands beside the number and the place.
 use borrow.Author.Needs.{needs}
 use Rattle.site.specs.Judge.{withSite}
 use Rattle.site.proofs.refusal.Statement.{statement}

@@ -1,4 +1,4 @@
--- `with_flow` stores at the number, where there is room; `set` past the end leaves a list alone, as the function does.
+-- Right because the four entries are set at the number, and past the end a list stays as it is.
 use borrow.Author.Needs.{needs}
 use mathlib.Core.Path.{_≡_, refl, sym}
 use lib.ListN.{length}
@@ -48,12 +48,4 @@ returns-2 c = refl
 pub with-flow-spec : {M : Type 1} → statement M
 with-flow-spec =
     tie.close
-    (tie.spec
-    cast-n
-    returns
-    element-write-next
-    element-write-next-2
-    element-write-next-3
-    mul-next
-    element-write-next-4
-    returns-2)
+    (tie.spec cast-n returns element-write-next element-write-next-2 element-write-next-3 mul-next element-write-next-4 returns-2)

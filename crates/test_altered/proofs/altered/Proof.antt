@@ -45,16 +45,4 @@ returns c = search needs
 pub altered-spec : {M : Type 1} → statement M
 altered-spec =
     tie.close
-    (tie.spec
-    Inv-loop
-    μ-loop
-    loop-holds
-    next-number-requires
-    next-number-requires-2
-    next-number-requires-3
-    changed-requires
-    loop-less
-    loop-again
-    loop-less-2
-    loop-again-2
-    returns)
+    (tie.spec Inv-loop μ-loop loop-holds next-number-requires next-number-requires-2 next-number-requires-3 changed-requires loop-less loop-again loop-less-2 loop-again-2 returns)

@@ -29,11 +29,4 @@ returns c = search needs
 pub read-site-spec : {M : Type 1} → statement M
 read-site-spec =
     tie.close
-    (tie.spec
-    plan-space-requires
-    slice-aggregate-parse-hex
-    parse-hex-requires
-    array-share-prefix-bytes
-    slice-aggregate-read-plan
-    read-plan-requires
-    returns)
+    (tie.spec plan-space-requires slice-aggregate-parse-hex parse-hex-requires array-share-prefix-bytes slice-aggregate-read-plan read-plan-requires returns)

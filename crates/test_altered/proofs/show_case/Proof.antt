@@ -32,12 +32,4 @@ returns-2 c = search needs
 pub show-case-spec : {M : Type 1} → statement M
 show-case-spec =
     tie.close
-    (tie.spec
-    next-number-requires
-    numbered-requires
-    altered-requires
-    array-borrow-prefix-out
-    slice-aggregate-show
-    show-requires
-    returns
-    returns-2)
+    (tie.spec next-number-requires numbered-requires altered-requires array-borrow-prefix-out slice-aggregate-show show-requires returns returns-2)

@@ -53,18 +53,4 @@ returns-2 c = search needs
 pub parse-gaps-spec : {M : Type 1} → statement M
 parse-gaps-spec =
     tie.close
-    (tie.spec
-    Inv-loop
-    μ-loop
-    loop-holds
-    next-number-requires
-    word-requires
-    mul-gaps
-    slice-write-gaps
-    add-n
-    loop-less
-    loop-again
-    same-length
-    returns
-    same-length-2
-    returns-2)
+    (tie.spec Inv-loop μ-loop loop-holds next-number-requires word-requires mul-gaps slice-write-gaps add-n loop-less loop-again same-length returns same-length-2 returns-2)

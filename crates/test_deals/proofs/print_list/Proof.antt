@@ -48,17 +48,4 @@ returns c = search needs
 pub print-list-spec : {M : Type 1} → statement M
 print-list-spec =
     tie.close
-    (tie.spec
-    Inv-loop
-    μ-loop
-    write-all-requires
-    loop-holds
-    slice-aggregate-print-field
-    mul-print-field
-    shared-slice-read-print-field
-    cast-print-field
-    print-field-requires
-    add-i
-    loop-less
-    loop-again
-    returns)
+    (tie.spec Inv-loop μ-loop write-all-requires loop-holds slice-aggregate-print-field mul-print-field shared-slice-read-print-field cast-print-field print-field-requires add-i loop-less loop-again returns)

@@ -56,20 +56,4 @@ returns-3 c = search needs
 pub show-case-spec : {M : Type 1} → statement M
 show-case-spec =
     tie.close
-    (tie.spec
-    next-number-requires
-    next-number-requires-2
-    numbered-requires
-    numbered-requires-2
-    slice-aggregate-parse-gaps
-    parse-gaps-requires
-    array-share-prefix-gaps
-    slice-aggregate-show
-    array-borrow-prefix-offsets
-    slice-aggregate-show-2
-    array-borrow-prefix-periods
-    slice-aggregate-show-3
-    show-requires
-    returns
-    returns-2
-    returns-3)
+    (tie.spec next-number-requires next-number-requires-2 numbered-requires numbered-requires-2 slice-aggregate-parse-gaps parse-gaps-requires array-share-prefix-gaps slice-aggregate-show array-borrow-prefix-offsets slice-aggregate-show-2 array-borrow-prefix-periods slice-aggregate-show-3 show-requires returns returns-2 returns-3)

@@ -44,16 +44,4 @@ returns c = search needs
 pub show-lines-spec : {M : Type 1} → statement M
 show-lines-spec =
     tie.close
-    (tie.spec
-    Inv-loop
-    μ-loop
-    loop-holds
-    line-end-requires
-    sub-show-line
-    part-show-line-start
-    part-show-line-end
-    show-line-requires
-    add-at
-    loop-less
-    loop-again
-    returns)
+    (tie.spec Inv-loop μ-loop loop-holds line-end-requires sub-show-line part-show-line-start part-show-line-end show-line-requires add-at loop-less loop-again returns)

@@ -45,16 +45,4 @@ returns-2 c = search needs
 pub next-number-spec : {M : Type 1} → statement M
 next-number-spec =
     tie.close
-    (tie.spec
-    Inv-loop
-    μ-loop
-    number-start-requires
-    loop-holds
-    shared-slice-read-digit
-    digit-requires
-    with-digit-requires
-    add-at
-    loop-less
-    loop-again
-    returns
-    returns-2)
+    (tie.spec Inv-loop μ-loop number-start-requires loop-holds shared-slice-read-digit digit-requires with-digit-requires add-at loop-less loop-again returns returns-2)

@@ -49,16 +49,4 @@ returns c = search needs
 pub parse-hex-spec : {M : Type 1} → statement M
 parse-hex-spec =
     tie.close
-    (tie.spec
-    Inv-loop
-    μ-loop
-    loop-holds
-    shared-slice-read-digit
-    digit-requires
-    joined-requires
-    store-requires
-    add-i
-    loop-less
-    loop-again
-    same-length
-    returns)
+    (tie.spec Inv-loop μ-loop loop-holds shared-slice-read-digit digit-requires joined-requires store-requires add-i loop-less loop-again same-length returns)

@@ -35,13 +35,4 @@ returns c = search needs
 pub print-accepted-spec : {M : Type 1} → statement M
 print-accepted-spec =
     tie.close
-    (tie.spec
-    plan-space-requires
-    slice-aggregate-print-field
-    cast-print-field
-    print-field-requires
-    array-borrow-prefix-out
-    slice-aggregate-print-again
-    print-again-requires
-    print-schedule-requires
-    returns)
+    (tie.spec plan-space-requires slice-aggregate-print-field cast-print-field print-field-requires array-borrow-prefix-out slice-aggregate-print-again print-again-requires print-schedule-requires returns)

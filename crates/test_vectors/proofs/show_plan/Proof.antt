@@ -29,11 +29,4 @@ returns c = search needs
 pub show-plan-spec : {M : Type 1} → statement M
 show-plan-spec =
     tie.close
-    (tie.spec
-    plan-space-requires
-    slice-aggregate-parse-hex
-    parse-hex-requires
-    array-share-prefix-bytes
-    slice-aggregate-print-plan
-    print-plan-requires
-    returns)
+    (tie.spec plan-space-requires slice-aggregate-parse-hex parse-hex-requires array-share-prefix-bytes slice-aggregate-print-plan print-plan-requires returns)

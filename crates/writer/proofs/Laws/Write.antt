@@ -14,7 +14,7 @@ use Rattle.pinwheel.specs.Outcome.{Outcome, accepted, refused}
 use Rattle.site.specs.declared.Site.{Site}
 use Rattle.site.specs.Sites.{live}
 use Rattle.format.specs.Bytes.{bytesOf}
-use Rattle.format.specs.Commands.{sizeOf, linkSize}
+use Rattle.format.specs.Commands.{sizeOf, scheduleSize}
 use Rattle.limits.specs.Check.{passesOf}
 use Rattle.writer.specs.Write.{nodeBytes, flowBytes, linkBytes, joined, flowIfLive, commandBytes, planBytes, scheduleBytes, written, siteFault, writtenIf}
 use Rattle.writer.proofs.Laws.Items.{joined-next}
@@ -101,8 +101,8 @@ pub flow-size : (s : Site) (n : ℕ) → length (flowBytes s n) ≡ sizeOf 2
 unfolding flowBytes bytesOf sizeOf
 flow-size s n = refl
 
-pub link-size : (offsets periods : List ℕ) (i : ℕ) → length (linkBytes offsets periods i) ≡ linkSize
-unfolding linkBytes bytesOf linkSize
+pub link-size : (offsets periods : List ℕ) (i : ℕ) → length (linkBytes offsets periods i) ≡ scheduleSize 17
+unfolding linkBytes bytesOf scheduleSize
 link-size offsets periods i = refl
 
 -- The bytes of a flow where it is live; a number that is not has none.
@@ -194,16 +194,16 @@ module _ (s : Site) where
       rw (sets-append out 0 (nodes ++ flows) (255 ∷ []), sets-append out 0 nodes flows, zero-add (length nodes), zero-add (length (nodes ++ flows)), ← p, ← n, ← q, ← k)
 
 -- 63 LINKs at most.
-pub links-few : (m n : ℕ) → m ≡ linkSize → n ≤ 63 → m * n ≤ 378
-unfolding linkSize
+pub links-few : (m n : ℕ) → m ≡ scheduleSize 17 → n ≤ 63 → m * n ≤ 378
+unfolding scheduleSize
 links-few m n is few = rw is (omega arith)
 
 -- A schedule: links, FF.
 module _ (offsets periods : List ℕ) (n : ℕ) where
   -- m stands for the size of a LINK.
-  module _ (m : ℕ) (is : m ≡ linkSize) where
+  module _ (m : ℕ) (is : m ≡ scheduleSize 17) where
     pub links-size : m * n ≡ length (joined (linkBytes offsets periods) n 0)
-    links-size = rw is (sym (sized-each (linkBytes offsets periods) linkSize (link-size offsets periods) n 0))
+    links-size = rw is (sym (sized-each (linkBytes offsets periods) (scheduleSize 17) (link-size offsets periods) n 0))
 
     pub schedule-size : m * n + 1 ≡ length (scheduleBytes n offsets periods)
     unfolding scheduleBytes

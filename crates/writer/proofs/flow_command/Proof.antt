@@ -1,4 +1,4 @@
--- The six bytes of a FLOW, the deadline with its low byte first.
+-- Right because the operands stand in their order, the deadline with its low byte first.
 use borrow.Author.Needs.{needs}
 use Rattle.format.specs.Bytes.{bytesOf}
 use Rattle.writer.specs.Write.{flowBytes}
@@ -33,12 +33,4 @@ returns c = rw (c .before .low .ensures, c .high .ensures)
 pub flow-command-spec : {M : Type 1} → statement M
 flow-command-spec =
     tie.close
-    (tie.spec
-    mul-deadline
-    element-copy-out-deadline
-    cast-t9
-    element-copy-out-t12
-    element-copy-out-t15
-    low-requires
-    high-requires
-    returns)
+    (tie.spec mul-deadline element-copy-out-deadline cast-t9 element-copy-out-t12 element-copy-out-t15 low-requires high-requires returns)

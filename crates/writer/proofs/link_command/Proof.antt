@@ -1,4 +1,4 @@
--- The six bytes of a LINK, both words with the low byte first.
+-- Right because the operands stand in their order, offset and period with their low bytes first.
 use borrow.Author.Needs.{needs}
 use Rattle.format.specs.Bytes.{bytesOf}
 use Rattle.writer.specs.Write.{linkBytes}
@@ -42,15 +42,4 @@ returns c = rw (c .before .before .before .low .ensures, c .before .before .high
 pub link-command-spec : {M : Type 1} → statement M
 link-command-spec =
     tie.close
-    (tie.spec
-    mul-offset
-    array-read-offset
-    mul-period
-    array-read-period
-    add-t8
-    cast-t14
-    low-requires
-    high-requires
-    low-requires-2
-    high-requires-2
-    returns)
+    (tie.spec mul-offset array-read-offset mul-period array-read-period add-t8 cast-t14 low-requires high-requires low-requires-2 high-requires-2 returns)

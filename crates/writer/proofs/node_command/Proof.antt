@@ -1,4 +1,4 @@
--- The six bytes of a NODE, both words with the low byte first.
+-- Right because the operands stand in their order, capacity and gap with their low bytes first.
 use borrow.Author.Needs.{needs}
 use Rattle.format.specs.Bytes.{bytesOf}
 use Rattle.writer.specs.Write.{nodeBytes}
@@ -39,14 +39,4 @@ returns c = rw (c .before .before .before .low .ensures, c .before .before .high
 pub node-command-spec : {M : Type 1} → statement M
 node-command-spec =
     tie.close
-    (tie.spec
-    mul-capacity
-    element-copy-out-capacity
-    mul-gap
-    element-copy-out-gap
-    element-copy-out-t14
-    low-requires
-    high-requires
-    low-requires-2
-    high-requires-2
-    returns)
+    (tie.spec mul-capacity element-copy-out-capacity mul-gap element-copy-out-gap element-copy-out-t14 low-requires high-requires low-requires-2 high-requires-2 returns)

@@ -1,4 +1,4 @@
--- Right because the flows below n that are live are stored one after the other up to `at`; 64 - n falls.
+-- Right because `Stored` holds: the live flows before n are stored one after the other up to `at`; 64 - n falls.
 use borrow.Author.Needs.{needs}
 use Prim.Native.Nat.{_-_}
 use mathlib.Core.Path.{_∙_, ap}

@@ -1,4 +1,4 @@
--- Right because the items below i are stored one after the other up to `at`; n - i falls.
+-- Right because `Stored` holds: the links before i are stored one after the other up to `at`; n - i falls.
 use borrow.Author.Needs.{needs}
 use Prim.Native.Nat.{_-_}
 use mathlib.Core.Path.{_∙_, ap}
@@ -32,14 +32,14 @@ put-requires c κs =
     let long = sofar .long in
     omega arith
 
-link-size-requires : tie.Need-link-size-requires Inv-loop μ-loop
-link-size-requires c κs = search needs
+schedule-size-requires : tie.Need-schedule-size-requires Inv-loop μ-loop
+schedule-size-requires c κs = search needs
 
 add-at : tie.Need-add-at Inv-loop μ-loop
 add-at c =
     let made = c .before .before .before .before .before .before in
     let room = stored-room _ _ _ _ _ _ _ (made .before .before .loop .inv) _ (omega arith) (made .link-command .ensures) in
-    let size = c .link-size .ensures in
+    let size = c .schedule-size .ensures in
     omega (arith, link-size (made .before .before .before .before .args .offsets) (made .before .before .before .before .args .periods) (made .before .before .loop .i), ap length (made .link-command .ensures))
 
 add-i : tie.Need-add-i Inv-loop μ-loop
@@ -52,7 +52,7 @@ loop-again : tie.Need-loop-again Inv-loop μ-loop
 loop-again c =
     let made = c .before .before .before .before .before .before in
     stored-more _ _ _ _ _ _ _ (made .before .before .loop .inv) _ _ _ (omega arith) (made .link-command .ensures) (c .before .before .before .put .ensures)
-    (rw (c .link-size .ensures, made .link-command .ensures, link-size (made .before .before .before .before .args .offsets) (made .before .before .before .before .args .periods) (made .before .before .loop .i)))
+    (rw (c .schedule-size .ensures, made .link-command .ensures, link-size (made .before .before .before .before .args .offsets) (made .before .before .before .before .args .periods) (made .before .before .loop .i)))
 
 same-length : tie.Need-same-length Inv-loop μ-loop
 same-length c = c .before .loop .inv .long
@@ -63,4 +63,4 @@ returns c = let end = stored-end _ _ _ _ _ _ _ (c .before .loop .inv) (omega ari
 pub put-links-spec : {M : Type 1} → statement M
 put-links-spec =
     tie.close
-    (tie.spec Inv-loop μ-loop loop-holds link-command-requires slice-aggregate-put put-requires link-size-requires add-at add-i loop-less loop-again same-length returns)
+    (tie.spec Inv-loop μ-loop loop-holds link-command-requires slice-aggregate-put put-requires schedule-size-requires add-at add-i loop-less loop-again same-length returns)

@@ -1,4 +1,4 @@
--- Right because the items below i are stored one after the other up to `at`; n - i falls.
+-- Right because `Stored` holds: the nodes before i are stored one after the other up to `at`; n - i falls.
 use borrow.Author.Needs.{needs}
 use Prim.Native.Nat.{_-_}
 use mathlib.Core.Path.{_∙_, ap}

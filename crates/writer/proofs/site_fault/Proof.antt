@@ -1,4 +1,4 @@
--- `site_fault` asks whether the site passes, and then whether it has links.
+-- Right because 14 is asked before 9.
 use borrow.Author.Needs.{needs}
 use Rattle.writer.proofs.Laws.Write.{fault-ill, fault-bare, fault-neither}
 use Rattle.writer.proofs.site_fault.Statement.{statement}

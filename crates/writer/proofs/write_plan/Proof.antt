@@ -1,4 +1,4 @@
--- `write_plan` refuses what `site_fault` finds, and leaves the rest to `put_plan`.
+-- Right because the checks of the site come before the writing, which judges the slice.
 use borrow.Author.Needs.{needs}
 use mathlib.Core.Path.{sym, _∙_}
 use Rattle.writer.proofs.Laws.Write.{fault-few, written-faulty, written-well}

@@ -1,4 +1,4 @@
--- `write_schedule` refuses what `site_fault` finds, and hands the schedule alone to `put_schedule`.
+-- Right because the checks of the site come before the writing, which judges the slice.
 use borrow.Author.Needs.{needs}
 use mathlib.Core.Path.{sym, _∙_}
 use Rattle.writer.proofs.Laws.Write.{fault-few, written-faulty, written-well}

@@ -1,4 +1,4 @@
--- A live flow is judged as its FLOW was read. Of a number not in use the three entries are looked at one by one.
+-- Right because a live flow is judged by the limits of its FLOW, and of a number not in use each entry is asked.
 use borrow.Author.Needs.{needs}
 use Rattle.limits.specs.Check.{flowOf}
 use Rattle.limits.proofs.Laws.Check.{flow-live, flow-state, flow-entry, flow-rate, flow-deadline}
@@ -45,16 +45,4 @@ returns-5 c = flow-deadline _ _ (search needs) (search needs) (search needs)
 pub ill-flow-spec : {M : Type 1} → statement M
 ill-flow-spec =
     tie.close
-    (tie.spec
-    cast-state
-    element-copy-out-t9
-    element-copy-out-t12
-    mul-t13
-    element-copy-out-t16
-    element-copy-out-state
-    flow-limits-requires
-    returns
-    returns-2
-    returns-3
-    returns-4
-    returns-5)
+    (tie.spec cast-state element-copy-out-t9 element-copy-out-t12 mul-t13 element-copy-out-t16 element-copy-out-state flow-limits-requires returns returns-2 returns-3 returns-4 returns-5)

@@ -1,4 +1,4 @@
--- A link in use is judged as its NODE was read. Past the last link the three entries are looked at one by one.
+-- Right because a link in use is judged by the limits of its NODE, and past the last link each entry is asked.
 use borrow.Author.Needs.{needs}
 use native.Mathlib.Omega.{arith}
 use Rattle.limits.specs.Check.{nodeOf}
@@ -46,16 +46,4 @@ returns-4 c = node-gap _ _ (omega arith) (search needs) (search needs)
 pub ill-node-spec : {M : Type 1} → statement M
 ill-node-spec =
     tie.close
-    (tie.spec
-    element-copy-out-if1
-    mul-t9
-    element-copy-out-t12
-    mul-t13
-    element-copy-out-t16
-    cast-if1
-    cast-node-limits
-    node-limits-requires
-    returns
-    returns-2
-    returns-3
-    returns-4)
+    (tie.spec element-copy-out-if1 mul-t9 element-copy-out-t12 mul-t13 element-copy-out-t16 cast-if1 cast-node-limits node-limits-requires returns returns-2 returns-3 returns-4)

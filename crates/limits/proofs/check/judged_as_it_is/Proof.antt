@@ -1,4 +1,4 @@
--- The site is judged anew, and where it passes its schedule is compared with the one that comes out.
+-- Right because what the judgement gives has the schedule of the site's own nodes, with which both lists are compared.
 use borrow.Author.Needs.{needs}
 use Rattle.limits.proofs.Laws.Check.{stands-refused, stands-offsets, stands-periods}
 use Rattle.limits.proofs.check.judged_as_it_is.Statement.{statement}
@@ -43,12 +43,4 @@ returns-3 c = stands-refused _ _ _ (c .before .before .before .judge .ensures) _
 pub judged-as-it-is-spec : {M : Type 1} → statement M
 judged-as-it-is-spec =
     tie.close
-    (tie.spec
-    judge-requires
-    enum-told
-    lists-agree-requires
-    returns
-    lists-agree-requires-2
-    enum-known-verdict
-    returns-2
-    returns-3)
+    (tie.spec judge-requires enum-told lists-agree-requires returns lists-agree-requires-2 enum-known-verdict returns-2 returns-3)

@@ -1,4 +1,4 @@
--- The tests of 14 one after the other. The shape of the site is right by its type.
+-- Right because the tests go in the order of the definition; the lengths of the lists are right by the site's type.
 use borrow.Author.Needs.{needs}
 use mathlib.Core.Path.{_≡_}
 use mathlib.Core.Bool.{true}

@@ -1,4 +1,4 @@
--- `bases::share` divides by the period, which is at least the base.
+-- Right because the period, which is at least the base, is not 0.
 use borrow.Author.Needs.{needs}
 use mathlib.Core.Path.{ap}
 use native.Mathlib.Omega.{arith}

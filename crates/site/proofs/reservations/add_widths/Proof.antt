@@ -1,5 +1,5 @@
--- The loop goes up the route: adding the widths of the rest of the route to the present loads gives what adding all of them gave at the start.
--- The links still to come have the loads of the start, and 4000000000 and one width more fit in 32 bits.
+-- Right because `Carrying` holds: adding the widths from the node up to the present loads gives what adding all of them gave at the start, and the links to come
+-- have the loads of the start, which with one width more fit in 32 bits; the node's number falls.
 use borrow.Author.Needs.{needs}
 use Prim.Native.Nat.{_*_, _≤_}
 use native.Mathlib.Omega.{arith}
@@ -76,21 +76,4 @@ loop-again c =
 pub add-widths-spec : {M : Type 1} → statement M
 add-widths-spec =
     tie.close
-    (tie.spec
-    Inv-loop
-    μ-loop
-    loop-holds
-    parent-of-requires
-    same-length
-    returns
-    sub-i
-    cast-i
-    value-of-requires
-    cast-loads
-    mul-loads
-    mul-loads-2
-    slice-read-loads
-    add-loads
-    slice-write-loads
-    loop-less
-    loop-again)
+    (tie.spec Inv-loop μ-loop loop-holds parent-of-requires same-length returns sub-i cast-i value-of-requires cast-loads mul-loads mul-loads-2 slice-read-loads add-loads slice-write-loads loop-less loop-again)

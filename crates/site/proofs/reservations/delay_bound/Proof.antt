@@ -1,4 +1,4 @@
--- The sum of the periods from the flow's entry node up is its delay bound. A number that no flow has enters at the root.
+-- Right because G is the sum of the periods from the entry node up, and a number that no flow has enters at the root.
 use borrow.Author.Needs.{needs}
 use mathlib.Core.Path.{_≡_}
 use lib.ListN.{length}
@@ -32,10 +32,4 @@ returns-2 c = c .sum-along .ensures
 pub delay-bound-spec : {M : Type 1} → statement M
 delay-bound-spec =
     tie.close
-    (tie.spec
-    returns
-    slice-aggregate-sum-along
-    slice-aggregate-sum-along-2
-    element-copy-out-sum-along
-    sum-along-requires
-    returns-2)
+    (tie.spec returns slice-aggregate-sum-along slice-aggregate-sum-along-2 element-copy-out-sum-along sum-along-requires returns-2)

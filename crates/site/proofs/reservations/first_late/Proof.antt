@@ -1,4 +1,4 @@
--- The loop has passed only flows that are not late, so the first late one from n on is the first of all.
+-- Right because no flow before n is late, so that the first late one from n on is the first of all; 64 - n falls.
 use borrow.Author.Needs.{needs}
 use Prim.Native.Nat.{_-_, _≤_}
 use mathlib.Core.Path.{_≡_, sym, _∙_}
@@ -76,21 +76,4 @@ returns-2 c = sym (c .before .loop .inv .1 ∙ first-end _ _ _ (c .loop-test .le
 pub first-late-spec : {M : Type 1} → statement M
 first-late-spec =
     tie.close
-    (tie.spec
-    Inv-loop
-    μ-loop
-    gaps-judged-requires
-    loop-holds
-    element-copy-out-if1
-    mul-if2
-    element-copy-out-if2
-    cast-if2
-    slice-aggregate-sum-along
-    slice-aggregate-sum-along-2
-    element-copy-out-sum-along
-    sum-along-requires
-    returns
-    add-n
-    loop-less
-    loop-again
-    returns-2)
+    (tie.spec Inv-loop μ-loop gaps-judged-requires loop-holds element-copy-out-if1 mul-if2 element-copy-out-if2 cast-if2 slice-aggregate-sum-along slice-aggregate-sum-along-2 element-copy-out-sum-along sum-along-requires returns add-n loop-less loop-again returns-2)

@@ -1,4 +1,4 @@
--- The loop has passed only links within their capacity, so the first one over it from i on is the first of all.
+-- Right because no link before i is over, so that the first one over from i on is the first of all; links - i falls.
 use borrow.Author.Needs.{needs}
 use Prim.Native.Nat.{_-_, _≤_}
 use mathlib.Core.Path.{_≡_, sym, _∙_}
@@ -65,19 +65,4 @@ returns-2 c = sym (c .before .loop .inv .2 ∙ first-end _ _ _ (c .loop-test .le
 pub first-over-spec : {M : Type 1} → statement M
 first-over-spec =
     tie.close
-    (tie.spec
-    Inv-loop
-    μ-loop
-    link-count-requires
-    loads-of-requires
-    loop-holds
-    mul-if1
-    element-copy-out-if1
-    cast-if1
-    mul-if1-2
-    array-read-if1
-    returns
-    add-i
-    loop-less
-    loop-again
-    returns-2)
+    (tie.spec Inv-loop μ-loop link-count-requires loads-of-requires loop-holds mul-if1 element-copy-out-if1 cast-if1 mul-if1-2 array-read-if1 returns add-i loop-less loop-again returns-2)

@@ -1,4 +1,4 @@
--- After n turns the loads are the sums of the widths of the flows below n. A width is at most 255 * 65535, so the sum of 64 fits.
+-- Right because `Loaded` holds: the loads are the sums of the widths of the flows before n, each at most 255 * 65535, so that 64 fit; 64 - n falls.
 use borrow.Author.Needs.{needs}
 use Prim.Native.Nat.{_-_}
 use mathlib.Core.Logic.{⊎-elim}
@@ -72,19 +72,4 @@ returns c = loaded-end _ _ _ (c .before .loop .inv) (c .loop-test .left)
 pub loads-of-spec : {M : Type 1} → statement M
 loads-of-spec =
     tie.close
-    (tie.spec
-    Inv-loop
-    μ-loop
-    gaps-judged-requires
-    loop-holds
-    element-copy-out-if1
-    slice-aggregate-add-widths
-    slice-aggregate-add-widths-2
-    element-copy-out-add-widths
-    element-copy-out-add-widths-2
-    slice-aggregate-add-widths-3
-    add-widths-requires
-    add-n
-    loop-less
-    loop-again
-    returns)
+    (tie.spec Inv-loop μ-loop gaps-judged-requires loop-holds element-copy-out-if1 slice-aggregate-add-widths slice-aggregate-add-widths-2 element-copy-out-add-widths element-copy-out-add-widths-2 slice-aggregate-add-widths-3 add-widths-requires add-n loop-less loop-again returns)

@@ -1,4 +1,4 @@
--- `base_in` reads the base out of an answer; a refusal has none.
+-- Right because a refusal has no base.
 use borrow.Author.Needs.{needs}
 use Rattle.site.specs.Schedule.{baseOf}
 use Rattle.site.proofs.schedule.base_in.Statement.{statement}

@@ -1,4 +1,4 @@
--- `base_under` deals to the children of the parent, whose gaps it gathers first.
+-- Right because the slot rule is asked for just the gaps of the parent's children.
 use borrow.Author.Needs.{needs}
 use Rattle.site.proofs.schedule.base_under.Statement.{statement}
 use Rattle.site.proofs.schedule.base_under.Tie as tie

@@ -1,4 +1,5 @@
--- `deal_all` goes through the parents: those passed are not crowded and their children have their entries. It stops at the first crowded one.
+-- Right because `Dealing` holds: no parent before p is crowded, and the children of those before p have their entries; n + 1 - p falls, and the first crowded
+-- one ends it.
 use borrow.Author.Needs.{needs}
 use Prim.Native.Nat.{_+_, _-_}
 use mathlib.Core.Logic.{inl, inr}
@@ -76,22 +77,4 @@ returns-2 c =
 pub deal-all-spec : {M : Type 1} → statement M
 deal-all-spec =
     tie.close
-    (tie.spec
-    Inv-loop
-    μ-loop
-    link-count-requires
-    zeros-requires
-    zeros-requires-2
-    loop-holds
-    cast-gaps-under
-    gaps-under-requires
-    deal-to-requires
-    cast-spread
-    spread-requires
-    cast-spread-2
-    spread-requires-2
-    add-p
-    loop-less
-    loop-again
-    returns
-    returns-2)
+    (tie.spec Inv-loop μ-loop link-count-requires zeros-requires zeros-requires-2 loop-holds cast-gaps-under gaps-under-requires deal-to-requires cast-spread spread-requires cast-spread-2 spread-requires-2 add-p loop-less loop-again returns returns-2)

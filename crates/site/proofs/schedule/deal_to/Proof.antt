@@ -1,4 +1,4 @@
--- `deal_to` lends the slot rule the gaps and as many zeros for each list; the rest of both arrays comes back as it was.
+-- Right because the slot rule is lent the gaps and as many zeros twice, and the rest of both arrays comes back as it was.
 use borrow.Author.Needs.{needs}
 use lib.ListN.{length-take}
 use native.Mathlib.Omega.{arith}
@@ -46,15 +46,4 @@ returns c =
 pub deal-to-spec : {M : Type 1} → statement M
 deal-to-spec =
     tie.close
-    (tie.spec
-    zeros-requires
-    zeros-requires-2
-    array-share-prefix-gaps
-    slice-aggregate-deal
-    array-borrow-prefix-offsets
-    slice-aggregate-deal-2
-    array-borrow-prefix-periods
-    slice-aggregate-deal-3
-    deal-requires
-    base-in-requires
-    returns)
+    (tie.spec zeros-requires zeros-requires-2 array-share-prefix-gaps slice-aggregate-deal array-borrow-prefix-offsets slice-aggregate-deal-2 array-borrow-prefix-periods slice-aggregate-deal-3 deal-requires base-in-requires returns)

@@ -1,4 +1,4 @@
--- `gaps_under` puts the gap of each child behind those of the children before it; there are at most as many as links passed.
+-- Right because `Collected` holds: the gaps of the children before i stand in front in their order; n - i falls.
 use borrow.Author.Needs.{needs}
 use Prim.Native.Nat.{_-_}
 use mathlib.Core.Logic.{⊎-elim}
@@ -59,19 +59,4 @@ returns c = collected-end _ _ _ _ _ (c .before .loop .inv) (search needs)
 pub gaps-under-spec : {M : Type 1} → statement M
 gaps-under-spec =
     tie.close
-    (tie.spec
-    Inv-loop
-    μ-loop
-    link-count-requires
-    zeros-requires
-    loop-holds
-    element-copy-out-if1
-    mul-gaps
-    element-copy-out-gaps
-    mul-gaps-2
-    array-write-gaps
-    add-count
-    add-i
-    loop-less
-    loop-again
-    returns)
+    (tie.spec Inv-loop μ-loop link-count-requires zeros-requires loop-holds element-copy-out-if1 mul-gaps element-copy-out-gaps mul-gaps-2 array-write-gaps add-count add-i loop-less loop-again returns)

@@ -1,4 +1,4 @@
--- `link_count` answers the smaller of the count and 63.
+-- Right because it is the smaller of the count and 63.
 use native.Mathlib.Omega.{arith}
 use Rattle.site.specs.Schedule.{used}
 use Rattle.site.proofs.schedule.link_count.Statement.{statement}

@@ -1,4 +1,4 @@
--- `spread` counts the children passed, so the next value is that of the child's rank.
+-- Right because `Handed` holds: k is the rank of the next child, and those before i have the value of their rank; n - i falls.
 use borrow.Author.Needs.{needs}
 use Prim.Native.Nat.{_-_}
 use mathlib.Core.Logic.{⊎-elim}
@@ -56,18 +56,4 @@ returns c = handed-end _ _ _ _ _ _ _ (c .before .loop .inv) (search needs)
 pub spread-spec : {M : Type 1} → statement M
 spread-spec =
     tie.close
-    (tie.spec
-    Inv-loop
-    μ-loop
-    link-count-requires
-    loop-holds
-    element-copy-out-if1
-    mul-next
-    array-read-next
-    mul-next-2
-    array-write-next
-    add-k
-    add-i
-    loop-less
-    loop-again
-    returns)
+    (tie.spec Inv-loop μ-loop link-count-requires loop-holds element-copy-out-if1 mul-next array-read-next mul-next-2 array-write-next add-k add-i loop-less loop-again returns)

@@ -1,4 +1,4 @@
--- `value_of` tells the three cases of `ofLink` apart: the root, a number beyond the list, and a link of the list.
+-- Right because it tells the root, a number beyond the list and a link of the list apart, as the definition does.
 use borrow.Author.Needs.{needs}
 use native.Mathlib.Omega.{arith}
 use Rattle.site.proofs.Laws.Tree.{link-root, link-out, link-in}
