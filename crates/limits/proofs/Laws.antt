@@ -17,10 +17,10 @@ use Rattle.site.specs.declared.Site.{Site}
 use Rattle.site.specs.declared.Flow.{Flow}
 use Rattle.site.specs.Sites.{ofLink, live, withFlow, withoutFlow}
 use Rattle.site.specs.Tree.{route, has}
-use Rattle.site.specs.Schedule.{linkSends}
+use Rattle.schedule.specs.Schedule.{linkSends}
 use Rattle.site.specs.Reservations.{gapsJudged, routeOf, widthAt, load, along, delayBound}
 use Rattle.site.specs.Words.{Leads}
-use Rattle.site.proofs.Laws as site
+use Rattle.schedule.proofs.Laws as slots
 use Rattle.site.proofs.Laws.Tree.{route-leads, route-falls}
 use Rattle.limits.specs.Check.{flowOf, passesOf}
 use Rattle.limits.specs.Words.{FlowGood, Sound}
@@ -44,24 +44,24 @@ module _ (s : Site) (e : passesOf s ≡ true) where
   -- 01, The site: two links of one parent share no slot.
   pub siblings-apart : (n m t : ℕ) → (n ≡ m → ⊥) → ofLink (s .parents) n ≡ ofLink (s .parents) m
       → linkSends s n t ≡ true → linkSends s m t ≡ true → ⊥
-  siblings-apart = site.siblings-apart s (sound-timed s sound)
+  siblings-apart = slots.siblings-apart s (sound-timed s sound)
 
   -- Each link sends exactly once in every run of `period` slots.
   pub link-once : (n start : ℕ) → 1 ≤ n → n ≤ s .links
       → (t : ℕ) × (start ≤ t) × (t < start + ofLink (s .periods) n) × (linkSends s n t ≡ true)
       × ((u : ℕ) → start ≤ u → u < start + ofLink (s .periods) n → linkSends s n u ≡ true → u ≡ t)
-  link-once = site.link-once s (sound-timed s sound)
+  link-once = slots.link-once s (sound-timed s sound)
 
   -- Its period is at least 1 and at most its wanted gap.
   pub period-within : (n : ℕ) → 1 ≤ n → n ≤ s .links → (1 ≤ ofLink (s .periods) n) × (ofLink (s .periods) n ≤ ofLink (s .gaps) n)
-  period-within = site.period-within s (sound-timed s sound)
+  period-within = slots.period-within s (sound-timed s sound)
 
   -- G is at most the deadline of every live flow.
   pub bound-within : (n : ℕ) → live s n ≡ true → delayBound s n ≤ getD (s .deadlines) n 0
   unfolding gapsJudged flowOf
   bound-within n l = omega (
     arith,
-    site.bound-within s (sound-timed s sound) n (live-fits s (sound .formed) n l .entry-most),
+    slots.bound-within s (sound-timed s sound) n (live-fits s (sound .formed) n l .entry-most),
     sound .punctual .within n (live-few s (sound .formed) n l) l,
   )
 

@@ -9,8 +9,8 @@ use Rattle.pinwheel.specs.Outcome.{Outcome, accepted, refused}
 use Rattle.pinwheel.specs.Search.{first}
 use Rattle.site.specs.declared.Site.{Site}
 use Rattle.site.specs.declared.Flow.{Flow}
-use Rattle.site.specs.Schedule.{offsetsDealt, periodsDealt}
-use Rattle.site.specs.Judge.{judgeOf}
+use Rattle.schedule.specs.Schedule.{offsetsDealt, periodsDealt}
+use Rattle.schedule.specs.Judge.{judgeOf}
 use Rattle.limits.specs.declared.Node.{Node}
 use Rattle.limits.specs.Limits.{nodeLimits, flowLimits}
 

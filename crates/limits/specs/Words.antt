@@ -7,8 +7,9 @@ use lib.ListN.{length, getD, replicate}
 use Rattle.site.specs.declared.Site.{Site}
 use Rattle.site.specs.declared.Flow.{Flow}
 use Rattle.site.specs.Tree.{depthOf}
-use Rattle.site.specs.Schedule.{scheduled}
-use Rattle.site.specs.Words.{Served, Carried, Punctual}
+use Rattle.schedule.specs.Schedule.{scheduled}
+use Rattle.site.specs.Words.{Carried, Punctual}
+use Rattle.schedule.specs.Words.{Served}
 use Rattle.limits.specs.declared.Node.{Node}
 use Rattle.limits.specs.Check.{nodeOf, flowOf}
 

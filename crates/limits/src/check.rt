@@ -2,9 +2,9 @@
 use crate::Node;
 use crate::flow_limits;
 use crate::node_limits;
+use schedule::Verdict;
 use site::Flow;
 use site::Site;
-use site::Verdict;
 ghost use mathlib.Core.Path.{_≡_};
 ghost use Prim.Native.Nat.{_<_};
 ghost use Rattle.limits.specs.Check.{illNode, illFlow, illAt, firstIll, same, stands, passesOf};
@@ -108,7 +108,7 @@ fn lists_agree(a: &[u16], b: &[u16]) -> bool
 fn judged_as_it_is(site: Site) -> bool
     ensures { λ r. ⌜ r ≡ stands site ⌝ }
 {
-    let judged = site::judge(site);
+    let judged = schedule::judge(site);
     let verdict = judged.verdict;
     match verdict {
         Verdict::Accepted => {

@@ -6,10 +6,11 @@ use Rattle.pinwheel.specs.Rule.{sends, earlier, taken, freeOffset, turn, level,
 use Rattle.pinwheel.specs.Deal.{badGap, firstBad, dealt}
 use Rattle.site.specs.Sites.{ofLink, live, withFlow, withSchedule}
 use Rattle.site.specs.Tree.{up, depthIn, depthOf, climb, route, has}
-use Rattle.site.specs.Schedule.{used, gapsFrom, gapsUnder, rank, dealtUnder, baseOf, baseUnder, crowded, firstCrowded}
-use Rattle.site.specs.Schedule.{entryDealt, listed, offsetsDealt, periodsDealt, scheduled}
+use Rattle.site.specs.Sites.{used}
+use Rattle.schedule.specs.Schedule.{gapsFrom, gapsUnder, rank, dealtUnder, baseOf, baseUnder, crowded, firstCrowded}
+use Rattle.schedule.specs.Schedule.{entryDealt, listed, offsetsDealt, periodsDealt, scheduled}
 use Rattle.site.specs.Reservations.{gapsJudged, routeOf, widthAt, widthOn, sumTo, load, over, firstOver, along, late, firstLate}
-use Rattle.site.specs.Judge.{withSite, reserved, judgeOf}
+use Rattle.schedule.specs.Judge.{withSite, reserved, judgeOf}
 use Rattle.limits.specs.Limits.{badNode, badFlow, nodeLimits, misplaced, flowLimits}
 use Rattle.format.specs.Commands.{sizeOf}
 use Rattle.format.specs.Bytes.{numberAt, bytesOf}

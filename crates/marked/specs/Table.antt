@@ -8,7 +8,7 @@ use Rattle.pinwheel.specs.Outcome.{Outcome, accepted, refused}
 use Rattle.pinwheel.specs.Deal.{dealt}
 use Rattle.site.specs.declared.Site.{Site}
 use Rattle.site.specs.Sites.{emptySite}
-use Rattle.site.specs.Judge.{withSite}
+use Rattle.schedule.specs.Judge.{withSite}
 use Rattle.reader.specs.Read.{readOf}
 use Rattle.writer.specs.Write.{scheduleBytes, writtenIf}
 

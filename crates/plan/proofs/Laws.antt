@@ -20,10 +20,11 @@ use Rattle.pinwheel.specs.Outcome.{accepted, refused}
 use Rattle.pinwheel.proofs.Laws.Search.{lt-or-le}
 use Rattle.site.specs.declared.Site.{Site}
 use Rattle.site.specs.Sites.{emptySite}
-use Rattle.site.specs.Schedule.{scheduled}
-use Rattle.site.specs.Judge.{withSite, judgeOf}
-use Rattle.site.specs.Words.{Wellgapped, Served, CrowdedAt, Carried, FullAt, Punctual, LateAt}
-use Rattle.site.proofs.Laws.{judge-crowds, judge-fills, judge-delays}
+use Rattle.schedule.specs.Schedule.{scheduled}
+use Rattle.schedule.specs.Judge.{withSite, judgeOf}
+use Rattle.site.specs.Words.{Carried, FullAt, Punctual, LateAt}
+use Rattle.schedule.specs.Words.{Wellgapped, Served, CrowdedAt}
+use Rattle.schedule.proofs.Laws.{judge-crowds, judge-fills, judge-delays}
 use Rattle.limits.specs.Check.{passesOf}
 use Rattle.limits.proofs.Laws.Forms.{formed-gapped}
 use Rattle.limits.proofs.Laws.Passing.{judged-when, passes-parts, judged-passes}

@@ -8,7 +8,7 @@ use Rattle.pinwheel.specs.Outcome.{Outcome, accepted, refused}
 use Rattle.site.specs.declared.Site.{Site}
 use Rattle.site.specs.declared.Flow.{Flow}
 use Rattle.site.specs.Sites.{emptySite, withFlow}
-use Rattle.site.specs.Judge.{judgeOf}
+use Rattle.schedule.specs.Judge.{judgeOf}
 use Rattle.limits.specs.declared.Node.{Node}
 use Rattle.reader.specs.declared.Draft.{Draft}
 use Rattle.limits.specs.Limits.{nodeLimits, flowLimits}

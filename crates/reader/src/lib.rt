@@ -1,13 +1,13 @@
 // Reading a plan: one command after the other, then the judgement of the whole.
 use limits::Node;
+use schedule::Judged;
+use schedule::Verdict;
 use site::Flow;
-use site::Judged;
 use site::Site;
-use site::Verdict;
 ghost use mathlib.Core.Path.{_≡_};
 ghost use Prim.Native.Nat.{_+_, _<_, _≤_};
 ghost use lib.ListN.{length};
-ghost use Rattle.site.specs.Judge.{ruling, withSite};
+ghost use Rattle.schedule.specs.Judge.{ruling, withSite};
 ghost use Rattle.reader.specs.Read.{nodeAt, flowAt, nodeFault, nodeAdded, flowAdded};
 ghost use Rattle.reader.specs.Read.{fault, after, endOf, decode, readOf};
 
@@ -121,10 +121,10 @@ fn end(size: usize, at: usize, site: Site) -> Judged
     ensures { λ r. ⌜ (ruling (r .verdict), r .site) ≡ withSite (endOf size at site) ⌝ }
 {
     if site.links == 0 {
-        return site::refusal(9, at);
+        return schedule::refusal(9, at);
     }
     if at + 1 < size {
-        return site::refusal(10, at + 1);
+        return schedule::refusal(10, at + 1);
     }
     Judged {
         verdict: Verdict::Accepted,
@@ -147,12 +147,12 @@ fn decoded(bytes: &[u8]) -> Judged
         }
         let fault = fault_at(bytes, at, draft);
         if fault != 0 {
-            return site::refusal(fault, at);
+            return schedule::refusal(fault, at);
         }
         draft = after_command(bytes, at, draft);
         at += format::size(bytes[at]);
     }
-    site::refusal(2, bytes.len())
+    schedule::refusal(2, bytes.len())
 }
 
 // The site that the bytes stand for, or a refusal with the empty site.
@@ -162,7 +162,7 @@ pub fn read_plan(bytes: &[u8]) -> Judged
     let form = decoded(bytes);
     let verdict = form.verdict;
     match verdict {
-        Verdict::Accepted => site::judge(form.site),
+        Verdict::Accepted => schedule::judge(form.site),
         Verdict::Refused(_number, _place) => form,
     }
 }

@@ -1,6 +1,6 @@
 // What `slotplan` prints of a plan.
+use schedule::Verdict;
 use site::Site;
-use site::Verdict;
 ghost use Prim.Native.Nat.{_<_};
 
 pub fn print_field(name: &[u8], value: u64) {
@@ -27,7 +27,7 @@ fn print_link(site: Site, i: usize)
     print_field(b"link ", i as u64 + 1);
     print_field(b" parent ", parent as u64);
     print_slots(
-        site::base_under(site, parent),
+        schedule::base_under(site, parent),
         site.offsets[i],
         site.periods[i],
     );

@@ -1,210 +1,86 @@
--- What is proved of sites: what the judgement of 11, 12 and 13 means, which gaps the slot rule is asked for, and what the slots of a site are that has
--- its own schedule. The modules named here hold the lemmas.
+-- What is proved of sites: what the searches of 12 and 13 find, in words. The modules named here hold the lemmas, and the laws of routes, depths and loads.
 pub mod Choices
 pub mod Tree
-pub mod Schedule
 pub mod Reservations
-pub mod Wanted
-pub mod Rulings
-pub mod Judge
-pub mod Slots
 use Prim.Native.Nat.{ℕ, zero, suc, _+_, _≤_, _<_}
-use mathlib.Core.Path.{_≡_, refl, sym, _∙_}
-use mathlib.Core.Bool.{true}
-use mathlib.Core.Logic.{_⊎_, inl, inr, _↔_}
-use mathlib.Core.List.{List}
-use lib.ListN.{length, getD}
+use mathlib.Core.Path.{_≡_, refl}
+use mathlib.Core.Bool.{Bool, true, false, _&&_, and-eq-true-iff}
+use mathlib.Core.Logic.{_↔_}
+use lib.Dec.{ltb}
+use lib.ListN.{getD}
+use borrow.Author.Tests.{lt-ltb, le-ltb, ltb-true, ltb-false}
 use native.Mathlib.Numerals.{add-one}
 use native.Mathlib.Omega.{arith}
-use Rattle.pinwheel.specs.Outcome.{refused, accepted}
-use Rattle.pinwheel.specs.Rule.{base}
-use Rattle.pinwheel.specs.Words.{Once}
-use Rattle.pinwheel.proofs.Laws.{period-largest, never-together, once-a-period}
-use Rattle.pinwheel.proofs.Laws.Outcomes.{refused-not}
-use Rattle.pinwheel.proofs.Laws.Search.{lt-or-le}
-use Rattle.pinwheel.proofs.Laws.Bases.{smallest-within, base-fits}
-use Rattle.pinwheel.proofs.Laws.Room.{period-at, base-harmonic}
+use Rattle.pinwheel.proofs.Laws.Search.{first-none, first-found}
 use Rattle.site.specs.declared.Site.{Site}
-use Rattle.site.specs.Sites.{ofLink, withSchedule}
-use Rattle.site.specs.Schedule.{used, gapsFrom, gapsUnder, rank, firstCrowded}
-use Rattle.site.specs.Schedule.{scheduled, linkSends}
-use Rattle.site.specs.Reservations.{routeOf, firstOver, along, firstLate, delayBound}
-use Rattle.site.specs.Judge.{judgeOf}
-use Rattle.site.specs.Words.{Children, Wellgapped, Served, CrowdedAt, Carried, FullAt, Punctual, LateAt, Timed, SendsAt}
-use Rattle.site.proofs.Laws.Tree.{route-within}
-use Rattle.site.proofs.Laws.Schedule.{rank-apart}
-use Rattle.site.proofs.Laws.Wanted.{Among, among}
-use Rattle.site.proofs.Laws.Judge.{served-when, carried-when, full-when, crowded-when, punctual-when, late-when}
-use Rattle.site.proofs.Laws.Judge.{Way, crowds, fills, delays, passes, judge-way}
-use Rattle.site.proofs.Laws.Slots.{placed, slot, sends-in, along-rises}
+use Rattle.site.specs.Sites.{used, ofLink, live}
+use Rattle.site.specs.Reservations.{gapsJudged, routeOf, load, over, firstOver, along, late, firstLate}
+use Rattle.site.specs.Words.{Carries, Carried, FullAt, OnTime, Punctual, LateAt}
 
--- The gaps that the slot rule is asked for under a parent are just those that its children want, by rising number and each child once.
-pub children-gaps : (s : Site) → s .links ≤ 63 → (p : ℕ) → (nodes : List ℕ) × Children s p nodes (gapsUnder s p)
-unfolding gapsUnder used ofLink
-children-gaps s few p =
-    let w = among (s .parents) (s .gaps) p (used (s .links)) 0 in (
-      w .0,
-      record {
-        long = w .1 .long;
-        child = λ k l. let c = w .1 .child k l in (omega (arith, c .0), omega (arith, c .1), c .2);
-        rising = w .1 .rising;
-        all = all (w .0) (w .1);
-        wanted = w .1 .wanted;
-      },
-    )
-  where
-    all : (nodes : List ℕ) → Among (s .parents) (s .gaps) p (used (s .links)) 0 nodes (gapsFrom (s .parents) (s .gaps) p (used (s .links)) 0)
-        → (n : ℕ) → 1 ≤ n → n ≤ s .links → ofLink (s .parents) n ≡ p → (k : ℕ) × (k < length nodes) × (getD nodes k 0 ≡ n)
-    all nodes w zero o l q = absurd (omega arith)
-    all nodes w (suc j) o l q = w .all j (omega arith) (omega arith) q
+module _ (s : Site) (few : s .links ≤ 63) where
+  -- A link by its number and by its index.
+  link-carries : (i : ℕ) → over s i ≡ false → Carries s (suc i)
+  unfolding over ofLink
+  link-carries i e = rw (← add-one i) (ltb-false _ _ e)
 
--- What is accepted is the site with its own schedule, and what is refused has one of three numbers.
-pub judge-gives : (s t : Site) → judgeOf s ≡ accepted t → t ≡ scheduled s
-judge-gives s t e = go (judge-way s)
-  where
-    go : Way s → t ≡ scheduled s
-    go (crowds a q) = absurd (refused-not _ q e)
-    go (fills a b q) = absurd (refused-not _ q e)
-    go (delays a b c q) = absurd (refused-not _ q e)
-    go (passes a b c q) = cc
+  carries-link : (i : ℕ) → Carries s (suc i) → over s i ≡ false
+  unfolding over ofLink
+  carries-link i h = le-ltb _ (load s (i + 1)) (rw (add-one i) h)
 
-pub judge-numbers : (s : Site) (number place : ℕ) → judgeOf s ≡ refused number place → 11 ≤ number
-judge-numbers s number place e = go (judge-way s)
-  where
-    go : Way s → 11 ≤ number
-    go (crowds a q) = let n : number ≡ 11 = cc in omega arith
-    go (fills a b q) = let n : number ≡ 12 = cc in omega arith
-    go (delays a b c q) = let n : number ≡ 13 = cc in omega arith
-    go (passes a b c q) = absurd (refused-not _ e q)
-
-module _ (s : Site) (few : s .links ≤ 63) (g : Wellgapped s) where
-  -- 11, 12 and 13 let a site pass just when it is as the words say.
-  pub judge-accepts : (judgeOf s ≡ accepted (scheduled s)) ↔ (Served s × Carried (scheduled s) × Punctual (scheduled s))
-  unfolding scheduled withSchedule
-  judge-accepts = (λ e. there e (judge-way s), λ w. back w (judge-way s))
+  -- The search of 12 finds nothing just when every link carries its widths, and its first just where the lowest does not.
+  pub carried-when : (used (s .links) ≤ firstOver s) ↔ Carried s
+  unfolding firstOver used
+  carried-when = (
+    λ h. record { within = within (first-none (over s) (used (s .links)) .0 h) },
+    λ w. first-none (over s) (used (s .links)) .1 (λ i l. carries-link i (w .within (suc i) (omega arith) (omega arith))),
+  )
     where
-      there : judgeOf s ≡ accepted (scheduled s) → Way s → Served s × Carried (scheduled s) × Punctual (scheduled s)
-      there e (crowds a q) = absurd (refused-not _ q e)
-      there e (fills a b q) = absurd (refused-not _ q e)
-      there e (delays a b c q) = absurd (refused-not _ q e)
-      there e (passes a b c q) = (served-when s few g .0 a, carried-when (scheduled s) few .0 b, punctual-when (scheduled s) .0 c)
+      within : ((i : ℕ) → i < used (s .links) → over s i ≡ false) → (m : ℕ) → 1 ≤ m → m ≤ s .links → Carries s m
+      within none zero o l = absurd (omega arith)
+      within none (suc i) o l = link-carries i (none i (omega arith))
 
-      back : Served s × Carried (scheduled s) × Punctual (scheduled s) → Way s → judgeOf s ≡ accepted (scheduled s)
-      back w (crowds a q) = absurd (omega (arith, served-when s few g .1 (w .0)))
-      back w (fills a b q) = absurd (omega (arith, carried-when (scheduled s) few .1 (w .1)))
-      back w (delays a b c q) = absurd (omega (arith, punctual-when (scheduled s) .1 (w .2)))
-      back w (passes a b c q) = q
-
-  -- 11 at p.
-  pub judge-crowds : (p : ℕ) → (judgeOf s ≡ refused 11 p) ↔ CrowdedAt s p
-  judge-crowds p = (λ e. there e (judge-way s), λ w. back (crowded-when s few g p .1 w) (judge-way s))
+  pub full-when : (i : ℕ) → ((firstOver s ≡ i) × (i < used (s .links))) ↔ FullAt s (suc i)
+  unfolding firstOver used over ofLink
+  full-when i = (
+    λ w. let f = first-found (over s) (used (s .links)) i .0 w in record {
+      link = (omega arith, omega (arith, f .0));
+      over = rw (← add-one i) (ltb-true _ _ (f .1));
+      lower = lower (f .2);
+    },
+    λ w. first-found (over s) (used (s .links)) i .1
+        (omega (arith, w .link .1), lt-ltb _ (load s (i + 1)) (rw (add-one i) (w .over)), λ j l. carries-link j (w .lower (suc j) (omega arith) (omega arith))),
+  )
     where
-      there : judgeOf s ≡ refused 11 p → Way s → CrowdedAt s p
-      there e (crowds a q) = let n : firstCrowded s ≡ p = cc in crowded-when s few g p .0 (n, omega arith)
-      there e (fills a b q) = let n : _≡_ {A = ℕ} 11 12 = cc in absurd (omega arith)
-      there e (delays a b c q) = let n : _≡_ {A = ℕ} 11 13 = cc in absurd (omega arith)
-      there e (passes a b c q) = absurd (refused-not _ e q)
+      lower : ((j : ℕ) → j < i → over s j ≡ false) → (k : ℕ) → 1 ≤ k → k < suc i → Carries s k
+      lower none zero o l = absurd (omega arith)
+      lower none (suc j) o l = link-carries j (none j (omega arith))
 
-      back : (firstCrowded s ≡ p) × (p < used (s .links) + 1) → Way s → judgeOf s ≡ refused 11 p
-      back (e, l) (crowds a q) = rw e at q
-      back (e, l) (fills a b q) = absurd (omega arith)
-      back (e, l) (delays a b c q) = absurd (omega arith)
-      back (e, l) (passes a b c q) = absurd (omega arith)
+-- Whether a flow is late, by the test and in words.
+module _ (s : Site) where
+  flow-on-time : (n : ℕ) → late s n ≡ false → live s n ≡ true → OnTime s n
+  unfolding late
+  flow-on-time n e l = ltb-false _ _ (rw l at e)
 
-  -- 12 at link m.
-  pub judge-fills : (m : ℕ) → (judgeOf s ≡ refused 12 m) ↔ (Served s × FullAt (scheduled s) m)
-  unfolding scheduled withSchedule
-  judge-fills m = (λ e. there e (judge-way s), λ w. back m w (judge-way s))
+  on-time-flow : (n : ℕ) → (live s n ≡ true → OnTime s n) → late s n ≡ false
+  unfolding late
+  on-time-flow n = go (live s n)
     where
-      there : judgeOf s ≡ refused 12 m → Way s → Served s × FullAt (scheduled s) m
-      there e (crowds a q) = let n : _≡_ {A = ℕ} 11 12 = cc in absurd (omega arith)
-      there e (fills a b q) =
-          let n : suc (firstOver (scheduled s)) ≡ m = sym (add-one _) ∙ cc in
-          (served-when s few g .0 a, rw (← n) (full-when (scheduled s) few (firstOver (scheduled s)) .0 (refl, b)))
-      there e (delays a b c q) = let n : _≡_ {A = ℕ} 12 13 = cc in absurd (omega arith)
-      there e (passes a b c q) = absurd (refused-not _ e q)
+      go : (t : Bool) → (t ≡ true → OnTime s n) → t && ltb (getD (s .deadlines) n 0) (along (gapsJudged s) (routeOf s n)) ≡ false
+      go true h = le-ltb _ _ (h refl)
+      go false h = refl
 
-      back : (m : ℕ) → Served s × FullAt (scheduled s) m → Way s → judgeOf s ≡ refused 12 m
-      back m w (crowds a q) = absurd (omega (arith, served-when s few g .1 (w .0)))
-      back zero w (fills a b q) = absurd (omega (arith, w .1 .link .0))
-      back (suc i) w (fills a b q) = rw (full-when (scheduled s) few i .1 (w .1) .0, add-one i) at q
-      back zero w (delays a b c q) = absurd (omega (arith, w .1 .link .0))
-      back (suc i) w (delays a b c q) = let f = full-when (scheduled s) few i .1 (w .1) in absurd (omega (arith, f .0, f .1))
-      back zero w (passes a b c q) = absurd (omega (arith, w .1 .link .0))
-      back (suc i) w (passes a b c q) = let f = full-when (scheduled s) few i .1 (w .1) in absurd (omega (arith, f .0, f .1))
+  -- The search of 13 finds nothing just when every live flow is on time, and its first just where the lowest is not.
+  pub punctual-when : (64 ≤ firstLate s) ↔ Punctual s
+  unfolding firstLate
+  punctual-when = (
+    λ h. record { within = λ n l. flow-on-time n (first-none (late s) 64 .0 h n l) },
+    λ w. first-none (late s) 64 .1 (λ n l. on-time-flow n (w .within n l)),
+  )
 
-  -- 13 at flow n.
-  pub judge-delays : (n : ℕ) → (judgeOf s ≡ refused 13 n) ↔ (Served s × Carried (scheduled s) × LateAt (scheduled s) n)
-  unfolding scheduled withSchedule
-  judge-delays n = (λ e. there e (judge-way s), λ w. back w (late-when (scheduled s) n .1 (w .2)) (judge-way s))
-    where
-      there : judgeOf s ≡ refused 13 n → Way s → Served s × Carried (scheduled s) × LateAt (scheduled s) n
-      there e (crowds a q) = let n : _≡_ {A = ℕ} 11 13 = cc in absurd (omega arith)
-      there e (fills a b q) = let n : _≡_ {A = ℕ} 12 13 = cc in absurd (omega arith)
-      there e (delays a b c q) =
-          let is : firstLate (scheduled s) ≡ n = cc in
-          (served-when s few g .0 a, carried-when (scheduled s) few .0 b, rw (← is) (late-when (scheduled s) (firstLate (scheduled s)) .0 (refl, c)))
-      there e (passes a b c q) = absurd (refused-not _ e q)
-
-      back : Served s × Carried (scheduled s) × LateAt (scheduled s) n → (firstLate (scheduled s) ≡ n) × (n < 64) → Way s → judgeOf s ≡ refused 13 n
-      back w f (crowds a q) = absurd (omega (arith, served-when s few g .1 (w .0)))
-      back w f (fills a b q) = absurd (omega (arith, carried-when (scheduled s) few .1 (w .1)))
-      back w f (delays a b c q) = rw (f .0) at q
-      back w f (passes a b c q) = absurd (omega (arith, f .0, f .1))
-
--- A site with its own schedule.
-module _ (s : Site) (h : Timed s) where
-  -- 01, The site: two links of one parent share no slot.
-  pub siblings-apart : (n m t : ℕ) → (n ≡ m → ⊥) → ofLink (s .parents) n ≡ ofLink (s .parents) m
-      → linkSends s n t ≡ true → linkSends s m t ≡ true → ⊥
-  unfolding ofLink
-  siblings-apart n m t d e u v = go n m d e (sends-in s n t .0 u) (sends-in s m t .0 v)
-    where
-      apart : (i k : ℕ) → getD (s .parents) i 0 ≡ getD (s .parents) k 0 → (i ≡ k → ⊥) → (i < k) ⊎ (k ≤ i)
-          → rank s (getD (s .parents) k 0) i ≡ rank s (getD (s .parents) k 0) k → ⊥
-      apart i k e d (inl l) q = omega (arith, rank-apart s (getD (s .parents) k 0) i k l e)
-      apart i k e d (inr l) q = omega (arith, rank-apart s (getD (s .parents) k 0) k i (omega arith) refl)
-
-      go : (n m : ℕ) → (n ≡ m → ⊥) → ofLink (s .parents) n ≡ ofLink (s .parents) m → SendsAt s n t → SendsAt s m t → ⊥
-      go zero m d e u v = omega (arith, u .0)
-      go (suc i) zero d e u v = omega (arith, v .0)
-      go (suc i) (suc k) d e u v =
-          let p = getD (s .parents) k 0 in
-          let x = placed s h p i (omega (arith, u .1)) e in
-          let y = placed s h p k (omega (arith, v .1)) refl in
-          never-together 2 (omega arith) (gapsUnder s p) (x .base-some) _ _ t (x .among) (y .among)
-          (apart i k e (λ q. d (omega arith)) (lt-or-le i k)) (slot s h p i t x (u .2)) (slot s h p k t y (v .2))
-
-  -- In every run of `period` slots a link sends exactly once.
-  pub link-once : (n start : ℕ) → 1 ≤ n → n ≤ s .links
-      → (t : ℕ) × (start ≤ t) × (t < start + ofLink (s .periods) n) × (linkSends s n t ≡ true)
-      × ((u : ℕ) → start ≤ u → u < start + ofLink (s .periods) n → linkSends s n u ≡ true → u ≡ t)
-  unfolding ofLink
-  link-once zero start o l = absurd (omega arith)
-  link-once (suc i) start o l =
-      let p = getD (s .parents) i 0 in
-      let x = placed s h p i (omega arith) refl in
-      let w : Once (getD (s .periods) i 0) (getD (s .offsets) i 0) start =
-      rw (x .period, x .offset) (once-a-period 2 (omega arith) (gapsUnder s p) (x .base-some) _ start (x .among)) in
-      (w .0, w .1, w .2, sends-in s (suc i) (w .0) .1 (o, l, w .3), λ u a b q. w .4 u a b (sends-in s (suc i) u .0 q .2))
-
-  -- A link's period is at least 1 and at most its wanted gap.
-  pub period-within : (n : ℕ) → 1 ≤ n → n ≤ s .links → (1 ≤ ofLink (s .periods) n) × (ofLink (s .periods) n ≤ ofLink (s .gaps) n)
-  unfolding ofLink
-  period-within zero o l = absurd (omega arith)
-  period-within (suc i) o l =
-      let p = getD (s .parents) i 0 in
-      let x = placed s h p i (omega arith) refl in
-      let some = x .base-some in
-      let below : base 2 (gapsUnder s p) ≤ getD (gapsUnder s p) (rank s p i) 0 =
-      omega (arith, base-fits 2 (omega arith) (gapsUnder s p) some .1, smallest-within (gapsUnder s p) (rank s p i) (x .place)) in
-      rw (x .period) (
-        base-harmonic 2 (omega arith) (gapsUnder s p) some .positive (rank s p i) (x .among),
-        rw (period-at 2 (omega arith) (gapsUnder s p) some (rank s p i) (x .among), ← x .gap) (period-largest 2 (omega arith) _ _ some below .1),
-      )
-
-  -- So G is at most the sum that 13 judges.
-  pub bound-within : (n : ℕ) → getD (s .entries) n 0 ≤ s .links → delayBound s n ≤ along (s .gaps) (routeOf s n)
-  unfolding delayBound routeOf
-  bound-within n a = along-rises _ _ _ (λ m e.
-      let w = route-within (s .parents) m (getD (s .entries) n 0) e in period-within m (w .0) (omega (arith, w .1)) .1)
+  pub late-when : (n : ℕ) → ((firstLate s ≡ n) × (n < 64)) ↔ LateAt s n
+  unfolding firstLate late
+  late-when n = (
+    λ w. let f = first-found (late s) 64 n .0 w in let b = and-eq-true-iff (live s n) _ .0 (f .1) in
+        record { flow = (f .0, b .0); over = ltb-true _ _ (b .1); lower = λ k l. flow-on-time k (f .2 k l) },
+    λ w. first-found (late s) 64 n .1 (w .flow .0, rw (w .flow .1) (lt-ltb _ _ (w .over)), λ k l. on-time-flow k (w .lower k l)),
+  )

@@ -6,9 +6,8 @@ use lib.Dec.{ltb}
 use lib.ListN.{getD}
 use Rattle.pinwheel.specs.Search.{first}
 use Rattle.site.specs.declared.Site.{Site}
-use Rattle.site.specs.Sites.{ofLink, live}
+use Rattle.site.specs.Sites.{used, ofLink, live}
 use Rattle.site.specs.Tree.{route, has}
-use Rattle.site.specs.Schedule.{used}
 
 -- The gaps that widths and the sums of 12 and 13 go by: the wanted gaps. Request U2 makes them the periods.
 unfoldable pub gapsJudged : Site → List ℕ

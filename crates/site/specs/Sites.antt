@@ -1,5 +1,5 @@
 -- Sites as values. A link is named by its node's number n and has the index n - 1 in every list of links; a flow's index is its number.
-use Prim.Native.Nat.{ℕ, zero, suc}
+use Prim.Native.Nat.{ℕ, zero, suc, min}
 use mathlib.Core.Bool.{Bool}
 use mathlib.Core.List.{List}
 use lib.Dec.{eqb}
@@ -21,6 +21,10 @@ emptySite = record {
   rates = replicate 64 0;
   deadlines = replicate 64 0;
 }
+
+-- How many links a site has: 63 at most, whatever its count says.
+unfoldable pub used : ℕ → ℕ
+used links = min links 63
 
 -- What a list of links holds for the link of node n; the root has no link.
 unfoldable pub ofLink : List ℕ → ℕ → ℕ

@@ -1,15 +1,13 @@
-// A site: its tree of links, what its flows reserve, the slots of its links, and the judgement of 11, 12 and 13.
+// A site: its tree of links, and what its flows reserve.
 mod reservations;
-mod schedule;
 mod tree;
 
 pub use reservations::delay_bound;
-pub use schedule::base_under;
+pub use reservations::first_late;
+pub use reservations::first_over;
 pub use tree::depth;
 ghost use mathlib.Core.Path.{_≡_};
-ghost use Rattle.site.specs.Sites.{emptySite, withFlow};
-ghost use Rattle.pinwheel.specs.Outcome.{refused};
-ghost use Rattle.site.specs.Judge.{ruling, withSite, reserved, judgeOf};
+ghost use Rattle.site.specs.Sites.{emptySite, used, withFlow};
 
 // One value for one plan: node n's entries are at index n - 1, a flow's at its number, and whatever is not in use is 0.
 // A flow's state is 0 for a number not in use and 1 for a live flow.
@@ -32,18 +30,6 @@ pub struct Flow {
     pub entry: u8,
     pub rate: u8,
     pub deadline: u16,
-}
-
-// What a call that changes or reads a site answers.
-pub enum Verdict {
-    Accepted,
-    Refused(u8, usize),
-}
-
-// The verdict of a judgement or a reading, and the site that it gives.
-pub struct Judged {
-    pub verdict: Verdict,
-    pub site: Site,
 }
 
 // The site without links and flows.
@@ -80,48 +66,12 @@ pub fn with_flow(site: Site, flow: Flow) -> Site
     next
 }
 
-// 01: a refusal comes with the empty site.
-pub fn refusal(number: u8, place: usize) -> Judged
-    ensures { λ r. ⌜ (ruling (r .verdict), r .site) ≡ withSite (refused number place) ⌝ }
+// How many links a site has, whatever its count says.
+pub fn link_count(links: u8) -> usize
+    ensures { λ r. ⌜ r ≡ used links ⌝ }
 {
-    Judged {
-        verdict: Verdict::Refused(number, place),
-        site: empty(),
+    if 63 < links {
+        return 63;
     }
-}
-
-// 12 and 13 for a site that has its schedule.
-fn judge_reservations(site: Site) -> Judged
-    ensures { λ r. ⌜ (ruling (r .verdict), r .site) ≡ withSite (reserved site) ⌝ }
-{
-    let links = schedule::link_count(site.links);
-    let over = reservations::first_over(site);
-    let late = reservations::first_late(site);
-    if over < links {
-        return refusal(12, over + 1);
-    }
-    if late < 64 {
-        return refusal(13, late);
-    }
-    Judged {
-        verdict: Verdict::Accepted,
-        site,
-    }
-}
-
-// The site with its schedule where 11, 12 and 13 let it pass. The offsets and periods handed in play no part.
-pub fn judge(site: Site) -> Judged
-    ensures { λ r. ⌜ (ruling (r .verdict), r .site) ≡ withSite (judgeOf site) ⌝ }
-{
-    let dealt = schedule::deal_all(site);
-    let crowded = dealt.crowded;
-    if crowded <= schedule::link_count(site.links) {
-        return refusal(11, crowded);
-    }
-    let offsets = dealt.offsets;
-    let periods = dealt.periods;
-    let mut next = site;
-    next.offsets = offsets;
-    next.periods = periods;
-    judge_reservations(next)
+    links as usize
 }

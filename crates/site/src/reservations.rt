@@ -1,6 +1,6 @@
 // What live flows keep on the links of their routes.
 use crate::Site;
-use crate::schedule::link_count;
+use crate::link_count;
 use crate::tree::parent_of;
 use crate::tree::value_of;
 ghost use mathlib.Core.Path.{_≡_};
@@ -68,7 +68,7 @@ fn loads_of(site: Site) -> [u32; 63]
 }
 
 // 01, 12: the index of the first link with widths above its capacity, or the number of links.
-pub(crate) fn first_over(site: Site) -> usize
+pub fn first_over(site: Site) -> usize
     ensures { λ r. ⌜ r ≡ firstOver site ⌝ }
 {
     let links = link_count(site.links);
@@ -84,7 +84,7 @@ pub(crate) fn first_over(site: Site) -> usize
 }
 
 // 01, 13: the first live flow whose judged gaps sum to more than its deadline, or 64.
-pub(crate) fn first_late(site: Site) -> usize
+pub fn first_late(site: Site) -> usize
     ensures { λ r. ⌜ r ≡ firstLate site ⌝ }
 {
     let gaps = gaps_judged(site);

@@ -1,7 +1,7 @@
 // Reads plans from standard input, each on a line in hexadecimal, and prints for each the refusal, or how its plan and its schedule are written.
 // A line that begins with `#` is printed as it stands.
+use schedule::Verdict;
 use site::Site;
-use site::Verdict;
 ghost use Prim.Native.Nat.{_≤_};
 use writer::Written;
 

@@ -14,17 +14,17 @@ use mir.Val.{Val}
 use native.Mathlib.Omega.{arith}
 use borrow.Author.Needs.{needs}
 use Rattle.site.specs.declared.Site.{Site}
-use Rattle.site.specs.declared.Verdict.{Verdict}
-use Rattle.site.specs.declared.Verdict.the-variants.{Accepted, Refused}
+use Rattle.schedule.specs.declared.Verdict.{Verdict}
+use Rattle.schedule.specs.declared.Verdict.the-variants.{Accepted, Refused}
 use Rattle.pinwheel.specs.Outcome.{accepted}
-use Rattle.site.specs.Schedule.{offsetsDealt, periodsDealt}
-use Rattle.site.specs.Judge.{ruling, withSite, judgeOf}
+use Rattle.schedule.specs.Schedule.{offsetsDealt, periodsDealt}
+use Rattle.schedule.specs.Judge.{ruling, withSite, judgeOf}
 use Rattle.site.proofs.Site.{the-row}
 use Rattle.limits.specs.Limits.{nodeLimits, flowLimits}
 use Rattle.site.specs.Sites.{withSchedule}
-use Rattle.site.specs.Schedule.{scheduled}
-use Rattle.site.proofs.Laws.{judge-gives}
-use Rattle.site.proofs.Laws.Rulings.{site-accepted, site-refused}
+use Rattle.schedule.specs.Schedule.{scheduled}
+use Rattle.schedule.proofs.Laws.{judge-gives}
+use Rattle.schedule.proofs.Laws.Rulings.{site-accepted, site-refused}
 use Rattle.limits.specs.Check.{shaped, nodeOf, flowOf, illNode, illFlow, illAt, firstIll, formed, same, accepts, stands, passesOf}
 
 -- A site's type tells how long its lists are.

@@ -9,10 +9,11 @@ use native.Mathlib.Omega.{arith}
 use Rattle.pinwheel.specs.Search.{first}
 use Rattle.site.specs.declared.Site.{Site}
 use Rattle.site.specs.Sites.{emptySite, live, withSchedule}
-use Rattle.site.specs.Schedule.{used, gapsFrom, gapsUnder, crowded, firstCrowded, entryDealt, listed, offsetsDealt, periodsDealt, scheduled}
+use Rattle.site.specs.Sites.{used}
+use Rattle.schedule.specs.Schedule.{gapsFrom, gapsUnder, crowded, firstCrowded, entryDealt, listed, offsetsDealt, periodsDealt, scheduled}
 use Rattle.site.specs.Reservations.{firstOver, late, firstLate}
-use Rattle.site.specs.Judge.{reserved, judgeOf}
-use Rattle.site.proofs.Laws.Schedule.{offsets-dealt-long, periods-dealt-long, entry-unused}
+use Rattle.schedule.specs.Judge.{reserved, judgeOf}
+use Rattle.schedule.proofs.Laws.Schedule.{offsets-dealt-long, periods-dealt-long, entry-unused}
 use Rattle.limits.specs.Check.{shaped, nodeOf, flowOf, illNode, illFlow, illAt, firstIll, formed, same, accepts, stands, passesOf}
 use Rattle.limits.specs.Words.{Formed}
 use Rattle.limits.proofs.Laws.Forms.{linkless-idle}

@@ -13,11 +13,12 @@ use Rattle.site.specs.declared.Site.{Site}
 use Rattle.site.specs.declared.Flow.{Flow}
 use Rattle.site.specs.Sites.{ofLink, live, withFields, withFlow, withoutFlow, withSchedule}
 use Rattle.site.specs.Tree.{up, route, has}
-use Rattle.site.specs.Schedule.{gapsUnder, rank, dealtUnder, entryDealt, offsetsDealt, periodsDealt, scheduled}
+use Rattle.schedule.specs.Schedule.{gapsUnder, rank, dealtUnder, entryDealt, offsetsDealt, periodsDealt, scheduled}
 use Rattle.site.specs.Reservations.{gapsJudged, routeOf, widthAt, load, along}
 use Rattle.site.proofs.Laws.Tree.{up-in, depth-up, depth-route, route-root}
 use Rattle.site.proofs.Laws.Reservations.{load-with, load-without}
-use Rattle.site.specs.Words.{Served, Punctual, Timed}
+use Rattle.site.specs.Words.{Punctual}
+use Rattle.schedule.specs.Words.{Served, Timed}
 use Rattle.limits.specs.Check.{nodeOf, flowOf}
 use Rattle.limits.specs.Words.{FlowGood, IdleAt, Formed, Sound}
 use Rattle.limits.proofs.Laws.Forms.{formed-gapped, fields-formed, flow-formed}

@@ -15,8 +15,8 @@ use Rattle.site.specs.declared.Site.{Site}
 use Rattle.site.specs.declared.Flow.{Flow}
 use Rattle.site.specs.Sites.{withFields, withFlow}
 use Rattle.site.specs.Tree.{up, depthOf}
-use Rattle.site.specs.Schedule.{used}
-use Rattle.site.specs.Words.{Wellgapped}
+use Rattle.site.specs.Sites.{used}
+use Rattle.schedule.specs.Words.{Wellgapped}
 use Rattle.site.proofs.Laws.Tree.{depth-same}
 use Rattle.limits.specs.declared.Node.{Node}
 use Rattle.limits.specs.Limits.{badNode, badFlow, nodeLimits, misplaced, flowLimits}

@@ -5,12 +5,13 @@ use mathlib.Core.Logic.{_↔_}
 use Rattle.site.specs.declared.Site.{Site}
 use Rattle.pinwheel.specs.Outcome.{Outcome, accepted, refused}
 use Rattle.site.specs.Sites.{withSchedule}
-use Rattle.site.specs.Schedule.{offsetsDealt, periodsDealt, scheduled}
-use Rattle.site.specs.Judge.{judgeOf}
-use Rattle.site.proofs.Laws.Schedule.{offsets-dealt-long, periods-dealt-long}
-use Rattle.site.specs.Words.{Served, Carried, Punctual}
-use Rattle.site.proofs.Laws.{judge-gives, judge-accepts}
-use Rattle.site.proofs.Laws.Judge.{scheduled-bare, judge-bare}
+use Rattle.schedule.specs.Schedule.{offsetsDealt, periodsDealt, scheduled}
+use Rattle.schedule.specs.Judge.{judgeOf}
+use Rattle.schedule.proofs.Laws.Schedule.{offsets-dealt-long, periods-dealt-long}
+use Rattle.site.specs.Words.{Carried, Punctual}
+use Rattle.schedule.specs.Words.{Served}
+use Rattle.schedule.proofs.Laws.{judge-gives, judge-accepts}
+use Rattle.schedule.proofs.Laws.Judge.{scheduled-bare, judge-bare}
 use Rattle.limits.specs.Check.{shaped, nodeOf, flowOf, formed, same, accepts, stands, passesOf}
 use Rattle.limits.specs.Words.{Formed}
 use Rattle.limits.proofs.Laws.Forms.{formed-when, formed-gapped}

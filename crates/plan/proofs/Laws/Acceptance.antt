@@ -14,10 +14,10 @@ use Rattle.pinwheel.proofs.Laws.Outcomes.{refused-not}
 use Rattle.site.specs.declared.Site.{Site}
 use Rattle.site.specs.Sites.{live, withSchedule}
 use Rattle.site.specs.Tree.{depthOf}
-use Rattle.site.specs.Schedule.{scheduled}
-use Rattle.site.specs.Judge.{judgeOf}
-use Rattle.site.proofs.Laws.{judge-gives, judge-numbers}
-use Rattle.site.proofs.Laws.Judge.{judge-bare}
+use Rattle.schedule.specs.Schedule.{scheduled}
+use Rattle.schedule.specs.Judge.{judgeOf}
+use Rattle.schedule.proofs.Laws.{judge-gives, judge-numbers}
+use Rattle.schedule.proofs.Laws.Judge.{judge-bare}
 use Rattle.limits.specs.Limits.{badNode, badFlow, misplaced, nodeLimits, flowLimits}
 use Rattle.limits.specs.Words.{Formed}
 use Rattle.format.specs.Commands.{sizeOf}

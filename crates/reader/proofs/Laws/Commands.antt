@@ -9,7 +9,7 @@ use native.Mathlib.Omega.{arith}
 use Rattle.site.specs.declared.Site.{Site}
 use Rattle.site.specs.declared.Flow.{Flow}
 use Rattle.pinwheel.specs.Outcome.{Outcome, accepted, refused}
-use Rattle.site.specs.Judge.{withSite}
+use Rattle.schedule.specs.Judge.{withSite}
 use Rattle.format.specs.Commands.{sizeOf}
 use Rattle.format.proofs.Laws.{number-one, number-two}
 use Rattle.limits.specs.declared.Node.{Node}

@@ -10,9 +10,9 @@ use borrow.Author.Tests.{lt-ltb, le-ltb, eq-eqb, ne-eqb, ltb-false, eqb-true, eq
 use native.Mathlib.Omega.{arith}
 use Rattle.site.specs.declared.Site.{Site}
 use Rattle.pinwheel.specs.Outcome.{Outcome, accepted, refused}
-use Rattle.site.specs.Judge.{withSite, judgeOf}
+use Rattle.schedule.specs.Judge.{withSite, judgeOf}
 use Rattle.site.proofs.Laws.Choices.{cond-same}
-use Rattle.site.proofs.Laws.Rulings.{site-accepted, site-refused}
+use Rattle.schedule.proofs.Laws.Rulings.{site-accepted, site-refused}
 use Rattle.format.specs.Commands.{sizeOf}
 use Rattle.format.proofs.Laws.{size-node, size-flow, size-kinds}
 use Rattle.reader.specs.declared.Draft.{Draft}

@@ -6,7 +6,7 @@ use mathlib.Core.Path.{_≡_, sym, _∙_, ap}
 use lib.ListN.{length}
 use native.Mathlib.Omega.{arith}
 use Rattle.pinwheel.specs.Outcome.{refused}
-use Rattle.site.specs.Judge.{withSite}
+use Rattle.schedule.specs.Judge.{withSite}
 use Rattle.reader.specs.Read.{decode}
 use Rattle.reader.proofs.Laws.Decode.{decodeOn, decode-start, decode-out, decode-end, decode-stop, decode-go, fault-none}
 use Rattle.reader.proofs.decoded.Statement.{statement}

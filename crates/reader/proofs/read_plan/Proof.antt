@@ -1,7 +1,7 @@
 -- Right because a form that is right is judged, and a refused one stays refused.
 use borrow.Author.Needs.{needs}
 use mathlib.Core.Path.{_∙_, ap}
-use Rattle.site.specs.Judge.{ruling}
+use Rattle.schedule.specs.Judge.{ruling}
 use Rattle.reader.proofs.Laws.Decode.{read-judged, read-refused}
 use Rattle.reader.proofs.read_plan.Statement.{statement}
 use Rattle.reader.proofs.read_plan.Tie as tie

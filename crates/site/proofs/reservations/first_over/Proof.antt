@@ -6,7 +6,7 @@ use native.Mathlib.Nat.{sub-zero}
 use native.Mathlib.Omega.{arith}
 use Rattle.pinwheel.specs.Search.{firstIn}
 use Rattle.pinwheel.proofs.Laws.Search.{first-hit, first-miss, first-end}
-use Rattle.site.specs.Schedule.{used}
+use Rattle.site.specs.Sites.{used}
 use Rattle.site.specs.Reservations.{over, firstOver}
 use Rattle.site.proofs.Laws.Reservations.{over-yes, over-no}
 use Rattle.site.proofs.reservations.first_over.Statement.{statement}

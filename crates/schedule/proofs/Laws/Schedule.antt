@@ -1,0 +1,463 @@
+-- The slots of a site: the children of a parent by rising index, what the slot rule deals them, and the schedule of all links.
+use Prim.Native.Nat.{ℕ, zero, suc, _+_, _-_, _≤_, _<_}
+use mathlib.Core.Path.{_≡_, refl, sym, _∙_, ap}
+use mathlib.Core.Bool.{Bool, true, false, not, cond, _&&_}
+use mathlib.Core.Logic.{_⊎_, inl, inr}
+use mathlib.Core.List.{List, [], _∷_, _++_, append-nil}
+use lib.Dec.{eqb}
+use lib.ListN.{length, getD, take, drop, set, replicate, length-append, length-set, length-replicate}
+use lib.Seq.{length-take-le, length-front, take-at, take-suc-set, getD-append-seam, getD-set-same, getD-set-other, getD-take, ext-getD}
+use borrow.Author.Count.{below-more}
+use borrow.Author.Tests.{lt-ltb, le-ltb, le-leb, lt-leb, eq-eqb, ne-eqb, eqb-true}
+use native.Mathlib.Nat.{eq-or-lt-of-le, suc-add, zero-add, add-zero}
+use native.Mathlib.Numerals.{add-one}
+use native.Mathlib.Omega.{arith}
+use Rattle.pinwheel.specs.Rule.{base, periodsOf, offsetsOf}
+use Rattle.pinwheel.specs.Outcome.{Outcome, accepted, refused}
+use Rattle.pinwheel.specs.Deal.{dealt}
+use Rattle.pinwheel.specs.Words.{InLimits}
+use Rattle.pinwheel.proofs.Laws.Checks.{good-dealt}
+use Rattle.pinwheel.proofs.Laws.Search.{lt-or-le, first-is, first-skip, first-end}
+use Rattle.site.specs.declared.Site.{Site}
+use Rattle.site.specs.Sites.{used}
+use Rattle.schedule.specs.Schedule.{kept, gapsFrom, gapsUnder, rank, dealtUnder, baseOf, baseUnder, crowded, firstCrowded}
+use Rattle.schedule.specs.Schedule.{entryDealt, listed, offsetsDealt, periodsDealt}
+use Rattle.schedule.specs.Words.{Wellgapped}
+use Rattle.schedule.specs.Inner.{GapsOf, DealtTo, Spread, SlotsOf}
+
+-- The gaps wanted by p's children among the r links from index i on.
+abbrev gapsIn : Site → ℕ → ℕ → ℕ → List ℕ
+gapsIn s p r i = gapsFrom (s .parents) (s .gaps) p r i
+
+kept-append : (t : Bool) (x : ℕ) (xs ys : List ℕ) → kept t x (xs ++ ys) ≡ kept t x xs ++ ys
+kept-append true x xs ys = refl
+kept-append false x xs ys = refl
+
+kept-length : (t : Bool) (x : ℕ) (xs : List ℕ) (r : ℕ) → length xs ≤ r → length (kept t x xs) ≤ suc r
+kept-length true x xs r l = omega arith
+kept-length false x xs r l = omega arith
+
+module _ (s : Site) (p : ℕ) where
+  -- The gaps of the a + b links from i on are those of the first a and those of the b after them.
+  gaps-append : (a b i : ℕ) → gapsIn s p (a + b) i ≡ gapsIn s p a i ++ gapsIn s p b (i + a)
+  unfolding gapsFrom
+  gaps-append zero b i = rw (zero-add, add-zero)
+  gaps-append (suc a) b i =
+      let e : i + suc a ≡ i + 1 + a = omega arith in
+      rw (suc-add a b, e)
+      (ap (kept (eqb (getD (s .parents) i 0) p) (getD (s .gaps) i 0)) (gaps-append a b (i + 1))
+      ∙ kept-append (eqb (getD (s .parents) i 0) p) (getD (s .gaps) i 0) (gapsIn s p a (i + 1)) (gapsIn s p b (i + 1 + a)))
+
+  gaps-length : (r i : ℕ) → length (gapsIn s p r i) ≤ r
+  unfolding gapsFrom
+  gaps-length zero i = omega arith
+  gaps-length (suc r) i = kept-length (eqb (getD (s .parents) i 0) p) (getD (s .gaps) i 0) (gapsIn s p r (i + 1)) r (gaps-length r (i + 1))
+
+  -- From the link at index i on: a child's gap goes in front, another link's does not.
+  gaps-child : (r i : ℕ) → getD (s .parents) i 0 ≡ p → gapsIn s p (suc r) i ≡ getD (s .gaps) i 0 ∷ gapsIn s p r (i + 1)
+  unfolding gapsFrom
+  gaps-child r i e = rw (eq-eqb _ _ e)
+
+  gaps-other : (r i : ℕ) → (getD (s .parents) i 0 ≡ p → ⊥) → gapsIn s p (suc r) i ≡ gapsIn s p r (i + 1)
+  unfolding gapsFrom
+  gaps-other r i n = rw (ne-eqb _ _ n)
+
+  -- A child's gap stands behind those of the children before it.
+  gaps-split : (n i : ℕ) → i < n → getD (s .parents) i 0 ≡ p
+      → gapsIn s p n 0 ≡ gapsIn s p i 0 ++ (getD (s .gaps) i 0 ∷ gapsIn s p (n - (i + 1)) (i + 1))
+  gaps-split n i l e =
+      let n-is : n ≡ i + suc (n - (i + 1)) = omega arith in
+      ap (λ (m : ℕ). gapsIn s p m 0) n-is ∙ gaps-append i (suc (n - (i + 1))) 0 ∙ rw (zero-add, gaps-child (n - (i + 1)) i e)
+
+  -- One link more.
+  gaps-more-child : (i : ℕ) → getD (s .parents) i 0 ≡ p → gapsIn s p (i + 1) 0 ≡ gapsIn s p i 0 ++ (getD (s .gaps) i 0 ∷ [])
+  unfolding gapsFrom
+  gaps-more-child i e = gaps-append i 1 0 ∙ rw (zero-add, gaps-child 0 i e)
+
+  gaps-more-other : (i : ℕ) → (getD (s .parents) i 0 ≡ p → ⊥) → gapsIn s p (i + 1) 0 ≡ gapsIn s p i 0
+  unfolding gapsFrom
+  gaps-more-other i n = gaps-append i 1 0 ∙ rw (zero-add, gaps-other 0 i n, append-nil)
+
+used-most : (links : ℕ) → used links ≤ 63
+unfolding used
+used-most links = omega arith
+
+-- gaps_under, past the first i links: the first `count` entries are the gaps of p's children among them.
+pub record Collected (s : Site) (p i count : ℕ) (gaps : List ℕ) : Type 0 where
+  pub most : i ≤ used (s .links)
+  pub links : used (s .links) ≤ 63
+  pub long : length gaps ≡ 63
+  pub few : count ≤ i
+  pub are : take count gaps ≡ gapsIn s p i 0
+
+module _ (s : Site) (p : ℕ) where
+  pub collected-start : (gaps : List ℕ) → length gaps ≡ 63 → Collected s p 0 0 gaps
+  unfolding gapsFrom
+  collected-start gaps l = record { most = omega arith; links = used-most (s .links); long = l; few = omega arith; are = refl }
+
+  module _ (i count : ℕ) (gaps : List ℕ) (c : Collected s p i count gaps) where
+    pub collected-child : i < used (s .links) → getD (s .parents) i 0 ≡ p → Collected s p (i + 1) (count + 1) (set gaps count (getD (s .gaps) i 0))
+    collected-child l e = record {
+      most = omega arith;
+      links = c .links;
+      long = simp length-set (c .long);
+      few = omega (arith, c .few);
+      are =
+          rw (add-one count, take-suc-set gaps count (getD (s .gaps) i 0) (omega (arith, c .long, c .few, c .links)), c .are, gaps-more-child s p i e);
+    }
+
+    pub collected-other : i < used (s .links) → (getD (s .parents) i 0 ≡ p → ⊥) → Collected s p (i + 1) count gaps
+    collected-other l n =
+        record { most = omega arith; links = c .links; long = c .long; few = omega (arith, c .few); are = c .are ∙ sym (gaps-more-other s p i n) }
+
+    pub collected-end : used (s .links) ≤ i → GapsOf s p count gaps
+    unfolding gapsUnder
+    collected-end l =
+        let e : i ≡ used (s .links) = omega (arith, c .most) in
+        record { long = c .long; few = omega (arith, c .few, c .most, c .links); are = rw (← e) (c .are) }
+
+module _ (s : Site) (p : ℕ) where
+  rank-child : (i : ℕ) → getD (s .parents) i 0 ≡ p → rank s p (i + 1) ≡ rank s p i + 1
+  unfolding rank
+  rank-child i e = rw (gaps-more-child s p i e, length-append)
+
+  -- Of two children the earlier one has the smaller rank.
+  pub rank-apart : (i k : ℕ) → i < k → getD (s .parents) i 0 ≡ p → rank s p i < rank s p k
+  unfolding rank
+  rank-apart i k l e = rw (gaps-split s p k i l e, length-append) (omega arith)
+
+  -- A child's rank is the place of its gap among those of all p's children.
+  pub child-gap : (i : ℕ) → i < used (s .links) → getD (s .parents) i 0 ≡ p
+      → (rank s p i < length (gapsUnder s p)) × (getD (gapsUnder s p) (rank s p i) 0 ≡ getD (s .gaps) i 0)
+  unfolding rank gapsUnder
+  child-gap i l e =
+      let split = gaps-split s p (used (s .links)) i l e in
+      (rw (split, length-append) (omega arith), rw split (getD-append-seam (gapsIn s p i 0) (getD (s .gaps) i 0) _ 0))
+
+  rank-other : (i : ℕ) → (getD (s .parents) i 0 ≡ p → ⊥) → rank s p (i + 1) ≡ rank s p i
+  unfolding rank
+  rank-other i n = rw (gaps-more-other s p i n)
+
+-- spread, past the first i links, k of them p's children: these have their values, and every other entry is as it was.
+pub record Handed (s : Site) (p : ℕ) (values list : List ℕ) (i k : ℕ) (next : List ℕ) : Type 0 where
+  pub most : i ≤ used (s .links)
+  pub links : used (s .links) ≤ 63
+  pub long : length next ≡ 63
+  pub number : k ≡ rank s p i
+  pub few : k ≤ i
+  pub child : (j : ℕ) → j < i → getD (s .parents) j 0 ≡ p → getD next j 0 ≡ getD values (rank s p j) 0
+  pub other : (j : ℕ) → (j < i → getD (s .parents) j 0 ≡ p → ⊥) → getD next j 0 ≡ getD list j 0
+
+module _ (s : Site) (p : ℕ) (values list : List ℕ) where
+  pub handed-start : length list ≡ 63 → Handed s p values list 0 0 list
+  unfolding rank gapsFrom
+  handed-start l = record {
+    most = omega arith;
+    links = used-most (s .links);
+    long = l;
+    number = refl;
+    few = omega arith;
+    child = λ j m. absurd (omega arith);
+    other = λ j n. refl;
+  }
+
+  module _ (i k : ℕ) (next : List ℕ) (h : Handed s p values list i k next) where
+    pub handed-child : i < used (s .links) → getD (s .parents) i 0 ≡ p → Handed s p values list (i + 1) (k + 1) (set next i (getD values k 0))
+    handed-child l e = record {
+      most = omega arith;
+      links = h .links;
+      long = simp length-set (h .long);
+      number = rw (rank-child s p i e, h .number);
+      few = omega (arith, h .few);
+      child = below-more _ i (λ j m q. getD-set-other next i j (getD values k 0) 0 (λ z. omega arith) ∙ h .child j m q)
+          (λ q. getD-set-same next i (getD values k 0) 0 (omega (arith, h .long, h .links)) ∙ rw (h .number));
+      other = λ j n. getD-set-other next i j (getD values k 0) 0 (λ z. n (omega arith) (rw z e)) ∙ h .other j (λ m q. n (omega arith) q);
+    }
+
+    pub handed-other : i < used (s .links) → (getD (s .parents) i 0 ≡ p → ⊥) → Handed s p values list (i + 1) k next
+    handed-other l n = record {
+      most = omega arith;
+      links = h .links;
+      long = h .long;
+      number = h .number ∙ sym (rank-other s p i n);
+      few = omega (arith, h .few);
+      child = below-more _ i (h .child) (λ q. absurd (n q));
+      other = λ j m. h .other j (λ b q. m (omega arith) q);
+    }
+
+    pub handed-end : used (s .links) ≤ i → Spread s p values list next
+    handed-end l = record {
+      long = h .long;
+      child = λ j m. h .child j (omega arith);
+      other = λ j n. h .other j (λ b. n (omega (arith, h .most)));
+    }
+
+take-replicate : (n m x : ℕ) → n ≤ m → take n (replicate m x) ≡ replicate n x
+take-replicate zero m x l = refl
+take-replicate (suc n) zero x l = absurd (omega arith)
+take-replicate (suc n) (suc m) x l = ap (λ (xs : List ℕ). x ∷ xs) (take-replicate n m x (omega arith))
+
+-- The gaps gathered are as many as the children.
+pub gaps-number : (s : Site) (p n : ℕ) (gaps : List ℕ) → GapsOf s p n gaps → n ≡ length (gapsUnder s p)
+gaps-number s p n gaps g = sym (length-take-le n gaps (omega (arith, g .few, g .long))) ∙ ap length (g .are)
+
+-- deal_to: the slot rule was lent the gaps and the first n of 63 zeros, twice.
+module _ (s : Site) (p n : ℕ) (gaps zs ys : List ℕ) (g : GapsOf s p n gaps) (z : zs ≡ replicate 63 0) (y : ys ≡ replicate 63 0) where
+  same : dealt 2 (take n gaps) (take n zs) (take n ys) ≡ dealtUnder s p
+  unfolding dealtUnder
+  same = rw (z, y, take-replicate n 63 0 (g .few), g .are, ← gaps-number s p n gaps g)
+
+  pub dealt-to : (answer : Outcome ℕ) (os ps : List ℕ) → (answer, os, ps) ≡ dealt 2 (take n gaps) (take n zs) (take n ys)
+      → (b : ℕ) → b ≡ baseOf answer
+      → length os ≡ length (take n zs) → length ps ≡ length (take n ys)
+      → DealtTo s p b n (os ++ drop n zs) (ps ++ drop n ys)
+  unfolding baseUnder
+  dealt-to answer os ps e b q o k =
+      record {
+        offsets-long = length-front zs os n o ∙ rw z;
+        periods-long = length-front ys ps n k ∙ rw y;
+        number = gaps-number s p n gaps g;
+        few = g .few;
+        base = q ∙ ap (λ (r : Outcome ℕ × List ℕ × List ℕ). baseOf (r .0)) told;
+        offsets = take-at os (drop n zs) n (o ∙ front zs z) ∙ ap (λ (r : Outcome ℕ × List ℕ × List ℕ). r .1) told;
+        periods = take-at ps (drop n ys) n (k ∙ front ys y) ∙ ap (λ (r : Outcome ℕ × List ℕ × List ℕ). r .2) told;
+      }
+    where
+      front : (xs : List ℕ) → xs ≡ replicate 63 0 → length (take n xs) ≡ n
+      front xs f = rw f (length-take-le n (replicate 63 0) (g .few))
+
+      told : (answer, os, ps) ≡ dealtUnder s p
+      told = e ∙ same
+
+length-listed : (f : ℕ → ℕ) (r i : ℕ) → length (listed f r i) ≡ r
+unfolding listed
+length-listed f zero i = refl
+length-listed f (suc r) i = ap suc (length-listed f r (i + 1))
+
+getD-listed : (f : ℕ → ℕ) (r i k : ℕ) → k < r → getD (listed f r i) k 0 ≡ f (i + k)
+unfolding listed
+getD-listed f zero i k l = absurd (omega arith)
+getD-listed f (suc r) i zero l = rw add-zero
+getD-listed f (suc r) i (suc k) l = let e : i + suc k ≡ i + 1 + k = omega arith in rw e (getD-listed f r (i + 1) k (omega arith))
+
+getD-replicated : (n i x : ℕ) → getD (replicate n x) i x ≡ x
+getD-replicated zero i x = refl
+getD-replicated (suc n) zero x = refl
+getD-replicated (suc n) (suc i) x = getD-replicated n i x
+
+-- The entry of a link, in a list that is dealt under every parent.
+module _ (s : Site) (lists : ℕ → List ℕ) where
+  entry-some : (i : ℕ) → i < used (s .links) → getD (s .parents) i 0 ≤ used (s .links)
+      → entryDealt s lists i ≡ getD (lists (getD (s .parents) i 0)) (rank s (getD (s .parents) i 0) i) 0
+  unfolding entryDealt
+  entry-some i l m = simp (lt-ltb _ _ l, le-leb _ _ m)
+
+  entry-none : (i : ℕ) → (i < used (s .links) → getD (s .parents) i 0 ≤ used (s .links) → ⊥) → entryDealt s lists i ≡ 0
+  unfolding entryDealt
+  entry-none i n = go (lt-or-le i (used (s .links))) (lt-or-le (used (s .links)) (getD (s .parents) i 0))
+    where
+      go : (i < used (s .links)) ⊎ (used (s .links) ≤ i)
+          → (used (s .links) < getD (s .parents) i 0) ⊎ (getD (s .parents) i 0 ≤ used (s .links))
+          → entryDealt s lists i ≡ 0
+      go (inr m) w = simp (le-ltb _ _ m)
+      go (inl l) (inl m) = simp (lt-ltb _ _ l, lt-leb _ _ m)
+      go (inl l) (inr m) = absurd (n l m)
+
+  entry-listed : (i : ℕ) → i < 63 → getD (listed (entryDealt s lists) 63 0) i 0 ≡ entryDealt s lists i
+  entry-listed i l = getD-listed (entryDealt s lists) 63 0 i l ∙ rw zero-add
+
+-- deal_all, with the parents below p done: the entries of their children are dealt, and the others are 0.
+pub record Entered (s : Site) (lists : ℕ → List ℕ) (p : ℕ) (list : List ℕ) : Type 0 where
+  pub long : length list ≡ 63
+  pub some : (i : ℕ) → i < used (s .links) → getD (s .parents) i 0 < p
+      → getD list i 0 ≡ getD (lists (getD (s .parents) i 0)) (rank s (getD (s .parents) i 0) i) 0
+  pub none : (i : ℕ) → (i < used (s .links) → getD (s .parents) i 0 < p → ⊥) → getD list i 0 ≡ 0
+
+module _ (s : Site) (lists : ℕ → List ℕ) where
+  entered-start : (list : List ℕ) → list ≡ replicate 63 0 → Entered s lists 0 list
+  entered-start list z =
+      record { long = rw z; some = λ i l m. absurd (omega arith); none = λ i n. rw z (getD-replicated 63 i 0) }
+
+  module _ (p : ℕ) (list : List ℕ) (e : Entered s lists p list) where
+    entered-skip : length (gapsUnder s p) ≡ 0 → Entered s lists (p + 1) list
+    entered-skip z =
+        record { long = e .long; some = λ i l m. go i l (eq-or-lt-of-le (omega arith)); none = λ i n. e .none i (λ l m. n l (omega arith)) }
+      where
+        go : (i : ℕ) → i < used (s .links) → (getD (s .parents) i 0 ≡ p) ⊎ (getD (s .parents) i 0 < p)
+            → getD list i 0 ≡ getD (lists (getD (s .parents) i 0)) (rank s (getD (s .parents) i 0) i) 0
+        go i l (inl q) = absurd (omega (arith, child-gap s p i l q .0))
+        go i l (inr b) = e .some i l b
+
+    -- The values, p's list in front, were handed out to p's n children.
+    entered-more : (n : ℕ) (values : List ℕ) → n ≡ length (gapsUnder s p) → take n values ≡ lists p → (r : List ℕ) → Spread s p values list r
+        → Entered s lists (p + 1) r
+    entered-more n values number are r h =
+        record {
+          long = h .long;
+          some = λ i l m. go i l (eq-or-lt-of-le (omega arith));
+          none = λ i m. h .other i (λ l q. m l (omega arith)) ∙ e .none i (λ l b. m l (omega arith));
+        }
+      where
+        go : (i : ℕ) → i < used (s .links) → (getD (s .parents) i 0 ≡ p) ⊎ (getD (s .parents) i 0 < p)
+            → getD r i 0 ≡ getD (lists (getD (s .parents) i 0)) (rank s (getD (s .parents) i 0) i) 0
+        go i l (inl q) =
+            h .child i l q ∙ sym (getD-take n values (rank s p i) 0 (omega (arith, child-gap s p i l q .0))) ∙ rw (are, q)
+        go i l (inr b) = h .other i (λ m q. absurd (omega arith)) ∙ e .some i l b
+
+    entered-end : used (s .links) < p → p ≤ used (s .links) + 1 → list ≡ listed (entryDealt s lists) 63 0
+    entered-end lo hi =
+        ext-getD 0 list (listed (entryDealt s lists) 63 0) (e .long ∙ sym (length-listed (entryDealt s lists) 63 0))
+        (λ i l. go i (lt-or-le i (used (s .links))) (lt-or-le (used (s .links)) (getD (s .parents) i 0))
+        ∙ sym (entry-listed s lists i (omega (arith, e .long))))
+      where
+        go : (i : ℕ) → (i < used (s .links)) ⊎ (used (s .links) ≤ i)
+            → (used (s .links) < getD (s .parents) i 0) ⊎ (getD (s .parents) i 0 ≤ used (s .links))
+            → getD list i 0 ≡ entryDealt s lists i
+        go i (inr m) w = e .none i (λ l b. omega arith) ∙ sym (entry-none s lists i (λ l b. omega arith))
+        go i (inl l) (inl m) = e .none i (λ k b. omega arith) ∙ sym (entry-none s lists i (λ k b. omega arith))
+        go i (inl l) (inr m) = e .some i l (omega arith) ∙ sym (entry-some s lists i l m)
+
+-- deal_all, with the parents below p done: none of them is crowded, and both lists have what is dealt to their children.
+pub record Dealing (s : Site) (p : ℕ) (os ps : List ℕ) : Type 0 where
+  pub most : p ≤ used (s .links) + 1
+  pub links : used (s .links) ≤ 63
+  pub passed : (q : ℕ) → q < p → crowded s q ≡ false
+  pub offsets : Entered s (λ q. dealtUnder s q .1) p os
+  pub periods : Entered s (λ q. dealtUnder s q .2) p ps
+
+module _ (s : Site) where
+  pub dealing-start : (os ps : List ℕ) → os ≡ replicate 63 0 → ps ≡ replicate 63 0 → Dealing s 0 os ps
+  dealing-start os ps o q = record {
+    most = omega arith;
+    links = used-most (s .links);
+    passed = λ q l. absurd (omega arith);
+    offsets = entered-start _ _ os o;
+    periods = entered-start _ _ ps q;
+  }
+
+  module _ (p : ℕ) (os ps : List ℕ) (d : Dealing s p os ps) where
+    pub dealing-end : used (s .links) < p → SlotsOf s p os ps
+    unfolding firstCrowded offsetsDealt periodsDealt
+    dealing-end l = record {
+      crowded = sym (first-skip _ (used (s .links) + 1) p (d .most) (d .passed) ∙ first-end (crowded s) (used (s .links) + 1) p (omega arith));
+      offsets = λ m. entered-end _ _ p os (d .offsets) l (d .most);
+      periods = λ m. entered-end _ _ p ps (d .periods) l (d .most);
+    }
+
+    -- With no children under p.
+    pub dealing-none : p ≤ used (s .links) → (n : ℕ) (gaps : List ℕ) → GapsOf s p n gaps → n ≡ 0 → Dealing s (p + 1) os ps
+    unfolding crowded
+    dealing-none l n gaps g z =
+        let none : length (gapsUnder s p) ≡ 0 = omega (arith, gaps-number s p n gaps g) in
+        record {
+          most = omega arith;
+          links = d .links;
+          passed = below-more _ p (d .passed) (simp (eq-eqb _ _ none));
+          offsets = entered-skip _ _ p os (d .offsets) none;
+          periods = entered-skip _ _ p ps (d .periods) none;
+        }
+
+    -- With what the slot rule deals under p.
+    module _ (l : p ≤ used (s .links)) (b n : ℕ) (vs ws : List ℕ) (t : DealtTo s p b n vs ws) where
+      pub dealing-crowded : 0 < n → b ≡ 0 → SlotsOf s p os ps
+      unfolding firstCrowded crowded
+      dealing-crowded some z =
+          let m : length (gapsUnder s p) ≡ 0 → ⊥ = omega (arith, t .number) in
+          record {
+            crowded = sym (first-is (crowded s) (used (s .links) + 1) 0 p (omega arith) (omega arith)
+                (simp (ne-eqb _ _ m, eq-eqb _ _ (sym (t .base) ∙ z))) (d .passed));
+            offsets = λ m. absurd (omega arith);
+            periods = λ m. absurd (omega arith);
+          }
+
+      fit : (b ≡ 0 → ⊥) → crowded s p ≡ false
+      unfolding crowded
+      fit f = go (not (eqb (length (gapsUnder s p)) 0))
+        where
+          go : (x : Bool) → x && eqb (baseUnder s p) 0 ≡ false
+          go true = ne-eqb _ _ (λ e. f (t .base ∙ e))
+          go false = refl
+
+      pub dealing-more : (b ≡ 0 → ⊥) → (os′ ps′ : List ℕ) → Spread s p vs os os′ → Spread s p ws ps ps′ → Dealing s (p + 1) os′ ps′
+      dealing-more fits os′ ps′ o q = record {
+        most = omega arith;
+        links = d .links;
+        passed = below-more _ p (d .passed) (fit fits);
+        offsets = entered-more _ _ p os (d .offsets) n vs (t .number) (t .offsets) os′ o;
+        periods = entered-more _ _ p ps (d .periods) n ws (t .number) (t .periods) ps′ q;
+      }
+
+-- What the schedule means. First its lists: as long as those of the site, a link with a parent in the site has the entry of its rank
+-- among those dealt under that parent, and entries not in use are 0.
+module _ (s : Site) where
+  pub offsets-dealt-long : length (offsetsDealt s) ≡ 63
+  unfolding offsetsDealt
+  offsets-dealt-long = length-listed (entryDealt s (λ q. dealtUnder s q .1)) 63 0
+
+  pub periods-dealt-long : length (periodsDealt s) ≡ 63
+  unfolding periodsDealt
+  periods-dealt-long = length-listed (entryDealt s (λ q. dealtUnder s q .2)) 63 0
+
+  pub entry-at : (p i : ℕ) → i < used (s .links) → getD (s .parents) i 0 ≡ p → p ≤ used (s .links)
+      → (getD (offsetsDealt s) i 0 ≡ getD (dealtUnder s p .1) (rank s p i) 0) × (getD (periodsDealt s) i 0 ≡ getD (dealtUnder s p .2) (rank s p i) 0)
+  unfolding offsetsDealt periodsDealt
+  entry-at p i l e m = (at (λ q. dealtUnder s q .1), at (λ q. dealtUnder s q .2))
+    where
+      at : (lists : ℕ → List ℕ) → getD (listed (entryDealt s lists) 63 0) i 0 ≡ getD (lists p) (rank s p i) 0
+      at lists = entry-listed s lists i (omega (arith, used-most (s .links))) ∙ entry-some s lists i l (omega arith) ∙ rw e
+
+  pub entry-unused : (i : ℕ) → used (s .links) ≤ i → i < 63 → (getD (offsetsDealt s) i 0 ≡ 0) × (getD (periodsDealt s) i 0 ≡ 0)
+  unfolding offsetsDealt periodsDealt
+  entry-unused i m l = (at (λ q. dealtUnder s q .1), at (λ q. dealtUnder s q .2))
+    where
+      at : (lists : ℕ → List ℕ) → getD (listed (entryDealt s lists) 63 0) i 0 ≡ 0
+      at lists = entry-listed s lists i l ∙ entry-none s lists i (λ k b. omega arith)
+
+-- With gaps from 1 to 1,024 everywhere, so are those of a parent's children.
+kept-limits : (t : Bool) (x : ℕ) (xs : List ℕ) → InLimits x → ((k : ℕ) → k < length xs → InLimits (getD xs k 0))
+    → (k : ℕ) → k < length (kept t x xs) → InLimits (getD (kept t x xs) k 0)
+kept-limits true x xs h each zero l = h
+kept-limits true x xs h each (suc k) l = each k (omega arith)
+kept-limits false x xs h each k l = each k l
+
+module _ (s : Site) (p : ℕ) where
+  gaps-limits : (r i : ℕ) → ((j : ℕ) → j < i + r → InLimits (getD (s .gaps) j 0))
+      → (k : ℕ) → k < length (gapsIn s p r i) → InLimits (getD (gapsIn s p r i) k 0)
+  unfolding gapsFrom
+  gaps-limits zero i h k l = absurd (omega arith)
+  gaps-limits (suc r) i h k l =
+      kept-limits (eqb (getD (s .parents) i 0) p) (getD (s .gaps) i 0) (gapsIn s p r (i + 1)) (h i (omega arith))
+      (gaps-limits r (i + 1) (λ j m. h j (omega arith))) k l
+
+  abbrev zeros : List ℕ
+  zeros = replicate (length (gapsUnder s p)) 0
+
+  -- What the slot rule deals to the children of p where only the base is left to judge; the test is whether it is 0.
+  abbrev ruled : Bool → Outcome ℕ × List ℕ × List ℕ
+  ruled t = cond t (refused 11 0, zeros, zeros) (accepted (base 2 (gapsUnder s p)), offsetsOf 2 (gapsUnder s p), periodsOf 2 (gapsUnder s p))
+
+  -- With such gaps the slot rule refuses no parent that has children, except where no base fits them.
+  module _ (w : Wellgapped s) (some : 1 ≤ length (gapsUnder s p)) where
+    by-base : dealtUnder s p ≡ ruled (eqb (base 2 (gapsUnder s p)) 0)
+    unfolding dealtUnder gapsUnder
+    by-base =
+        good-dealt 2 (gapsUnder s p) zeros zeros (record {
+          offsets-long = length-replicate _ _;
+          periods-long = length-replicate _ _;
+          some = some;
+          few = omega (arith, gaps-length s p (used (s .links)) 0, used-most (s .links));
+          limits = gaps-limits (used (s .links)) 0 (λ j l. w .limits j (omega arith));
+        })
+
+    pub base-under : baseUnder s p ≡ base 2 (gapsUnder s p)
+    unfolding baseUnder baseOf
+    base-under = ap (λ (r : Outcome ℕ × List ℕ × List ℕ). baseOf (r .0)) by-base ∙ go (eqb (base 2 (gapsUnder s p)) 0) refl
+      where
+        go : (t : Bool) → eqb (base 2 (gapsUnder s p)) 0 ≡ t → baseOf (ruled t .0) ≡ base 2 (gapsUnder s p)
+        go true e = sym (eqb-true _ _ e)
+        go false e = refl
+
+    pub dealt-lists : 1 ≤ baseUnder s p → (dealtUnder s p .1 ≡ offsetsOf 2 (gapsUnder s p)) × (dealtUnder s p .2 ≡ periodsOf 2 (gapsUnder s p))
+    dealt-lists h =
+        let n : base 2 (gapsUnder s p) ≡ 0 → ⊥ = omega (arith, base-under) in
+        rw (by-base, ne-eqb _ _ n) (refl, refl)

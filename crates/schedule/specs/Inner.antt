@@ -1,0 +1,36 @@
+-- What the inner functions tell their callers. The public promises cite none of this.
+use Prim.Native.Nat.{ℕ, _<_, _≤_}
+use mathlib.Core.Path.{_≡_}
+use mathlib.Core.List.{List}
+use lib.ListN.{length, getD, take}
+use Rattle.site.specs.declared.Site.{Site}
+use Rattle.site.specs.Sites.{used}
+use Rattle.schedule.specs.Schedule.{rank, gapsUnder, dealtUnder, baseUnder, firstCrowded, offsetsDealt, periodsDealt}
+
+-- The first n entries of a list of 63 are the gaps wanted by p's children.
+pub record GapsOf (s : Site) (p n : ℕ) (gaps : List ℕ) : Type 0 where
+  pub long : length gaps ≡ 63
+  pub few : n ≤ 63
+  pub are : take n gaps ≡ gapsUnder s p
+
+-- The base that the slot rule finds for the n children of p, and in the first n of 63 entries what it deals them.
+pub record DealtTo (s : Site) (p b n : ℕ) (os ps : List ℕ) : Type 0 where
+  pub offsets-long : length os ≡ 63
+  pub periods-long : length ps ≡ 63
+  pub number : n ≡ length (gapsUnder s p)
+  pub few : n ≤ 63
+  pub base : b ≡ baseUnder s p
+  pub offsets : take n os ≡ dealtUnder s p .1
+  pub periods : take n ps ≡ dealtUnder s p .2
+
+-- The first crowded parent, and where there is none the whole schedule.
+pub record SlotsOf (s : Site) (p : ℕ) (os ps : List ℕ) : Type 0 where
+  pub crowded : p ≡ firstCrowded s
+  pub offsets : used (s .links) < p → os ≡ offsetsDealt s
+  pub periods : used (s .links) < p → ps ≡ periodsDealt s
+
+-- r is the list with the values handed out to p's children in their order.
+pub record Spread (s : Site) (p : ℕ) (values list r : List ℕ) : Type 0 where
+  pub long : length r ≡ 63
+  pub child : (i : ℕ) → i < used (s .links) → getD (s .parents) i 0 ≡ p → getD r i 0 ≡ getD values (rank s p i) 0
+  pub other : (i : ℕ) → (i < used (s .links) → getD (s .parents) i 0 ≡ p → ⊥) → getD r i 0 ≡ getD list i 0

@@ -1,0 +1,140 @@
+// The slot rule under every parent.
+use pinwheel::Answer;
+use site::Site;
+use site::link_count;
+ghost use mathlib.Core.Path.{_≡_};
+ghost use Prim.Native.Nat.{ℕ, _≤_};
+ghost use Rattle.site.specs.declared.Site.{Site};
+ghost use lib.ListN.{replicate};
+ghost use Rattle.pinwheel.specs.Deal.{outcome};
+ghost use Rattle.schedule.specs.Schedule.{baseOf, baseUnder};
+ghost use Rattle.schedule.specs.Inner.{GapsOf, DealtTo, Spread, SlotsOf};
+
+fn zeros() -> [u16; 63]
+    ensures { λ r. ⌜ r ≡ replicate 63 0 ⌝ }
+{
+    [0; 63]
+}
+
+// The gaps that the children of one parent want, in the first `count` places.
+struct Wanted {
+    count: usize,
+    gaps: [u16; 63],
+}
+
+fn gaps_under(site: Site, parent: u8) -> Wanted
+    ensures { λ r. ⌜ GapsOf site parent (r .count) (r .gaps) ⌝ }
+{
+    let n = link_count(site.links);
+    let mut gaps = zeros();
+    let mut count = 0;
+    let mut i = 0;
+    while i < n {
+        if site.parents[i] == parent {
+            gaps[count] = site.gaps[i];
+            count += 1;
+        }
+        i += 1;
+    }
+    Wanted { count, gaps }
+}
+
+// The base of an answer, 0 of a refusal.
+fn base_in(answer: Answer) -> u16
+    ensures { λ r. ⌜ r ≡ baseOf (outcome answer) ⌝ }
+{
+    match answer {
+        Answer::Base(base) => base,
+        Answer::Refused(_number, _place) => 0,
+    }
+}
+
+// The base that the slot rule finds for n children, 0 where it refuses them, and what it deals them, in the first n places.
+struct Dealt {
+    base: u16,
+    offsets: [u16; 63],
+    periods: [u16; 63],
+}
+
+// Asks the slot rule for n children with these gaps.
+fn deal_to(n: usize, gaps: [u16; 63]) -> Dealt
+    requires { ⌜ n ≤ 63 ⌝ }
+    ensures { λ r. ⌜ ((s : Site) (p : ℕ) → GapsOf s p n gaps → DealtTo s p (r .base) n (r .offsets) (r .periods)) ⌝ }
+{
+    let mut offsets = zeros();
+    let mut periods = zeros();
+    let answer = pinwheel::deal(&gaps[..n], &mut offsets[..n], &mut periods[..n]);
+    let base = base_in(answer);
+    Dealt {
+        base,
+        offsets,
+        periods,
+    }
+}
+
+// The base that the slot rule finds for the children of a parent, 0 where it refuses them.
+pub fn base_under(site: Site, parent: u8) -> u16
+    ensures { λ r. ⌜ r ≡ baseUnder site parent ⌝ }
+{
+    let wanted = gaps_under(site, parent);
+    let gaps = wanted.gaps;
+    let dealt = deal_to(wanted.count, gaps);
+    dealt.base
+}
+
+// Hands the values, in their order, to the children of one parent.
+fn spread(site: Site, parent: u8, values: [u16; 63], list: [u16; 63]) -> [u16; 63]
+    ensures { λ r. ⌜ Spread site parent values list r ⌝ }
+{
+    let n = link_count(site.links);
+    let mut next = list;
+    let mut k = 0;
+    let mut i = 0;
+    while i < n {
+        if site.parents[i] == parent {
+            next[i] = values[k];
+            k += 1;
+        }
+        i += 1;
+    }
+    next
+}
+
+// A schedule for all links, and the first crowded parent; one above the last link where there is none.
+pub(crate) struct Slots {
+    pub crowded: usize,
+    pub offsets: [u16; 63],
+    pub periods: [u16; 63],
+}
+
+pub(crate) fn deal_all(site: Site) -> Slots
+    ensures { λ r. ⌜ SlotsOf site (r .crowded) (r .offsets) (r .periods) ⌝ }
+{
+    let n = link_count(site.links);
+    let mut offsets = zeros();
+    let mut periods = zeros();
+    let mut p: usize = 0;
+    while p <= n {
+        let wanted = gaps_under(site, p as u8);
+        let count = wanted.count;
+        if 0 < count {
+            let gaps = wanted.gaps;
+            let dealt = deal_to(count, gaps);
+            if dealt.base == 0 {
+                break;
+            }
+            let child_offsets = dealt.offsets;
+            let child_periods = dealt.periods;
+            let next_offsets = spread(site, p as u8, child_offsets, offsets);
+            let next_periods = spread(site, p as u8, child_periods, periods);
+            offsets = next_offsets;
+            periods = next_periods;
+        }
+        p += 1;
+    }
+    Slots {
+        crowded: p,
+        offsets,
+        periods,
+    }
+}
