@@ -4,9 +4,10 @@ use crate::bytes::{passes_check_14, read_plan, write_plan, write_schedule};
 use crate::rules::{slot_rule, Refusal, Site};
 
 /// The programs with a stored input and output, in crates of these names.
-pub const PROGRAMS: [&str; 6] = [
+pub const PROGRAMS: &[&str] = &[
     "slotplan",
     "test_figures",
+    "test_bounds",
     "test_overlong",
     "test_vectors",
     "test_altered",
@@ -19,7 +20,7 @@ const LONGEST_SCHEDULE: usize = 379;
 /// The error is about an input outside the form that the program reads.
 pub fn output(program: &str, input: &[u8]) -> Result<String, String> {
     match program {
-        "slotplan" | "test_figures" | "test_overlong" => Ok(slotplan(input)),
+        "slotplan" | "test_figures" | "test_bounds" | "test_overlong" => Ok(slotplan(input)),
         "test_vectors" => each_line(input, vectors_line),
         "test_altered" => {
             let mut site = Site::empty();

@@ -64,6 +64,15 @@ module _ (bytes : List ℕ) (at : ℕ) where
   pub left-long : (left : List ℕ) → drop at bytes ≡ left → length bytes - at ≡ length left
   left-long left e = sym (length-drop at bytes) ∙ ap (λ (l : List ℕ). length l) e
 
+-- NODE and FLOW have bytes.
+pub node-some : 1 ≤ sizeOf 1
+unfolding sizeOf
+node-some = omega arith
+
+pub flow-some : 1 ≤ sizeOf 2
+unfolding sizeOf
+flow-some = omega arith
+
 -- The sizes, one by one.
 module _ (tag : ℕ) where
   pub size-node : tag ≡ 1 → 6 ≡ sizeOf tag

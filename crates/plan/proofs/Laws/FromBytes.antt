@@ -18,14 +18,14 @@ use Rattle.limits.proofs.Laws.Forms.{flow-good, flow-new, flow-old}
 use Rattle.format.specs.Bytes.{numberAt, bytesOf}
 use Rattle.format.specs.Commands.{sizeOf}
 use Rattle.format.specs.Words.{Bytes}
-use Rattle.format.proofs.Laws.{bytes-number, number-one, size-node, size-flow}
+use Rattle.format.proofs.Laws.{bytes-number, number-one}
 use Rattle.reader.specs.declared.Draft.{Draft}
 use Rattle.reader.specs.Read.{nodeAt, flowAt, flowFault, withNode, nodeAdded, flowAdded, fault, after, decode, blank}
 use Rattle.reader.proofs.Laws.Commands.{node-passed}
 use Rattle.reader.proofs.Laws.Decode.{decodeOn, decode-start, decode-go, fault-none, NodePasses, FlowPasses}
 use Rattle.writer.specs.Write.{nodeBytes, flowBytes, flowIfLive, joined, commandBytes}
 use Rattle.writer.proofs.Laws.Items.{joined-split, joined-more, joined-none, joined-same}
-use Rattle.writer.proofs.Laws.Write.{live-bytes, idle-bytes}
+use Rattle.writer.proofs.Laws.Write.{node-size, flow-size, live-bytes, idle-bytes}
 use Rattle.plan.specs.Words.{Begun}
 use Rattle.plan.proofs.Laws.Drafts.{Drafted, blank-drafted, node-new, node-old, node-drafted, flow-drafted}
 
@@ -91,11 +91,12 @@ module _ (bytes : List ℕ) where
     word at next e h =
         rw (bytes-number 2 bytes at small (omega arith), ← e, ← drop-drop 2 at bytes) (sym (take-append-drop 2 (drop at bytes)))
 
-    module _ (at : ℕ) (t : Site) (inside : at + 6 ≤ length bytes) where
+    module _ (at : ℕ) (t : Site) where
       -- The bytes of a command are written back from the operands that they are read to.
-      node-bytes : (i : ℕ) → getD bytes at 0 ≡ 1 → nodeOf t i ≡ nodeAt bytes at → drop at bytes ≡ nodeBytes t i ++ drop (at + 6) bytes
-      unfolding nodeBytes nodeAt nodeOf bytesOf
-      node-bytes i one e =
+      node-bytes : (i : ℕ) → at + sizeOf 1 ≤ length bytes → getD bytes at 0 ≡ 1 → nodeOf t i ≡ nodeAt bytes at
+          → drop at bytes ≡ nodeBytes t i ++ drop (at + sizeOf 1) bytes
+      unfolding nodeBytes nodeAt nodeOf bytesOf sizeOf
+      node-bytes i inside one e =
           rw (
             ap (λ (n : Node). n .parent) e,
             ap (λ (n : Node). n .capacity) e,
@@ -108,9 +109,10 @@ module _ (bytes : List ℕ) where
             word (at + 4) (at + 6) (omega arith) (omega arith),
           )
 
-      flow-bytes : (n : ℕ) → getD bytes at 0 ≡ 2 → flowOf t n ≡ flowAt bytes at → drop at bytes ≡ flowBytes t n ++ drop (at + 6) bytes
-      unfolding flowBytes flowAt flowOf bytesOf
-      flow-bytes n two e =
+      flow-bytes : (n : ℕ) → at + sizeOf 2 ≤ length bytes → getD bytes at 0 ≡ 2 → flowOf t n ≡ flowAt bytes at
+          → drop at bytes ≡ flowBytes t n ++ drop (at + sizeOf 2) bytes
+      unfolding flowBytes flowAt flowOf bytesOf sizeOf
+      flow-bytes n inside two e =
           rw (
             ap (λ (f : Flow). f .entry) e,
             ap (λ (f : Flow). f .rate) e,
@@ -161,7 +163,7 @@ module _ (bytes : List ℕ) (small : Bytes bytes) (at : ℕ) (d : Draft) (r : Re
 
   reached-step : at < length bytes → (getD bytes at 0 ≡ 255 → ⊥) → fault bytes at d ≡ 0
       → Reached bytes (at + sizeOf (getD bytes at 0)) (after bytes at d)
-  unfolding nodeAdded flowAdded flowFault nodeBytes flowBytes bytesOf withFlow
+  unfolding nodeAdded flowAdded flowFault withFlow
   reached-step l b e = go (fault-none bytes at d e .2)
     where
       within : at + sizeOf (getD bytes at 0) ≤ length bytes
@@ -173,23 +175,26 @@ module _ (bytes : List ℕ) (small : Bytes bytes) (at : ℕ) (d : Draft) (r : Re
       go : NodePasses bytes at d ⊎ FlowPasses bytes at d → Reached bytes (at + sizeOf (getD bytes at 0)) (after bytes at d)
       go (inl (one, f, a)) =
           let n = nodeAt bytes at in
-          let six = size-node (getD bytes at 0) one in
+          let t = withNode (d .site) n in
+          let k = d .site .links in
           let w = node-passed d n f in
-          rw (a, ← six)
-          (reached-more (at + 6) (nodeAdded d n) (nodeBytes (withNode (d .site) n) (d .site .links)) (node-drafted d n (r .drafted) f)
-          (omega (arith, within, six)) (omega arith)
-          (node-bytes bytes small at (withNode (d .site) n) (omega (arith, within, six)) (d .site .links) one (node-new (d .site) n (r .drafted .formed .shape) (w .1)))
-          (commands-node d (r .drafted) n (w .0)) (rw (a, ← six) at there))
+          let size : sizeOf (getD bytes at 0) ≡ sizeOf 1 = ap sizeOf one in
+          let inside : at + sizeOf 1 ≤ length bytes = omega (arith, within) in
+          rw (a, size)
+          (reached-more (at + sizeOf 1) (nodeAdded d n) (nodeBytes t k) (node-drafted d n (r .drafted) f) inside (rw (node-size t k))
+          (node-bytes bytes small at t k inside one (node-new (d .site) n (r .drafted .formed .shape) (w .1)))
+          (commands-node d (r .drafted) n (w .0)) (rw (a, size) at there))
       go (inr (two, f, a)) =
           let h = flowAt bytes at in
-          let six = size-flow (getD bytes at 0) two in
+          let t = withFlow (d .site) h in
           let w = flow-good (d .site .links) (d .next) h .0 f in
-          rw (a, ← six)
-          (reached-more (at + 6) (flowAdded d h) (flowBytes (withFlow (d .site) h) (h .number)) (flow-drafted d h (r .drafted) f)
-          (omega (arith, within, six)) (omega arith)
-          (flow-bytes bytes small at (withFlow (d .site) h) (omega (arith, within, six)) (h .number) two
+          let size : sizeOf (getD bytes at 0) ≡ sizeOf 2 = ap sizeOf two in
+          let inside : at + sizeOf 2 ≤ length bytes = omega (arith, within) in
+          rw (a, size)
+          (reached-more (at + sizeOf 2) (flowAdded d h) (flowBytes t (h .number)) (flow-drafted d h (r .drafted) f) inside (rw (flow-size t (h .number)))
+          (flow-bytes bytes small at t (h .number) inside two
           (flow-new (d .site) 1 h (r .drafted .formed .shape) (omega (arith, w .within .number-most)) .1))
-          (commands-flow d (r .drafted) h w) (rw (a, ← six) at there))
+          (commands-flow d (r .drafted) h w) (rw (a, size) at there))
 
 -- Where a reading stops: at the end of the bytes, at END, or at a command that fails a check.
 pub data Stop (bytes : List ℕ) (at : ℕ) (d : Draft) : Type 0 where

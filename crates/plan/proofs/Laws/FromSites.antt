@@ -4,7 +4,8 @@ use mathlib.Core.Path.{_≡_, refl, sym, _∙_, ap}
 use mathlib.Core.List.{List, _++_, append-assoc}
 use mathlib.Core.Logic.{_⊎_, inl, inr, ⊎-elim}
 use mathlib.Core.Bool.{true}
-use lib.ListN.{length, getD, take, drop, take-append-drop, set, replicate, length-drop, List·getD-eq-default}
+use lib.ListN.{length, getD, take, drop, take-append-drop, length-append, set, replicate, length-drop, List·getD-eq-default}
+use lib.Seq.{drop-at}
 use borrow.Author.Tests.{le-ltb, lt-leb, eq-eqb, ne-eqb, eqb-true}
 use native.Mathlib.Nat.{eq-or-lt-of-le}
 use native.Mathlib.Omega.{arith}
@@ -25,9 +26,9 @@ use Rattle.limits.proofs.Laws.Flows.{live-few}
 use Rattle.limits.proofs.Laws.Forms.{node-good, flow-good, good-same, good-wider}
 use Rattle.reader.specs.Read.{fault, after}
 use Rattle.format.specs.Commands.{sizeOf}
-use Rattle.format.proofs.Laws.{size-node, size-flow}
+use Rattle.format.proofs.Laws.{node-some, flow-some}
 use Rattle.reader.proofs.Laws.Decode.{decodeOn, decode-start, decode-go}
-use Rattle.writer.proofs.Laws.Write.{live-bytes, idle-bytes}
+use Rattle.writer.proofs.Laws.Write.{node-size, flow-size, live-bytes, idle-bytes}
 
 abbrev zeros : List ℕ
 zeros = replicate 63 0
@@ -162,25 +163,29 @@ module _ (s : Site) (g : Formed s) where
       )
 
 -- A NODE or a FLOW that passes its checks is read, and the reading goes on behind it.
-module _ (bytes : List ℕ) (at : ℕ) (d : Draft) (inside : at + 6 ≤ length bytes) where
-  node-read : getD bytes at 0 ≡ 1 → nodeFault d (nodeAt bytes at) ≡ 0 → decodeOn bytes at d ≡ decodeOn bytes (at + 6) (nodeAdded d (nodeAt bytes at))
+module _ (bytes : List ℕ) (at : ℕ) (d : Draft) where
+  node-read : at + sizeOf 1 ≤ length bytes → getD bytes at 0 ≡ 1 → nodeFault d (nodeAt bytes at) ≡ 0
+      → decodeOn bytes at d ≡ decodeOn bytes (at + sizeOf 1) (nodeAdded d (nodeAt bytes at))
   unfolding fault after
-  node-read t e =
+  node-read inside t e =
       let q = eq-eqb _ _ t in
-      let six = size-node (getD bytes at 0) t in
-      let n : sizeOf (getD bytes at 0) ≡ 0 → ⊥ = omega arith in
+      let size : sizeOf (getD bytes at 0) ≡ sizeOf 1 = ap sizeOf t in
+      let n : sizeOf (getD bytes at 0) ≡ 0 → ⊥ = omega (arith, node-some) in
       let l : at + sizeOf (getD bytes at 0) ≤ length bytes = omega arith in
-      decode-go bytes at d (omega arith) (omega arith) (simp (ne-eqb _ _ n, le-ltb _ _ l, q, e)) ∙ rw (← six) (ap (decodeOn bytes (at + 6)) (simp q))
+      decode-go bytes at d (omega (arith, node-some)) (omega arith) (simp (ne-eqb _ _ n, le-ltb _ _ l, q, e))
+      ∙ rw size (ap (decodeOn bytes (at + sizeOf 1)) (simp q))
 
-  flow-read : getD bytes at 0 ≡ 2 → flowFault d (flowAt bytes at) ≡ 0 → decodeOn bytes at d ≡ decodeOn bytes (at + 6) (flowAdded d (flowAt bytes at))
+  flow-read : at + sizeOf 2 ≤ length bytes → getD bytes at 0 ≡ 2 → flowFault d (flowAt bytes at) ≡ 0
+      → decodeOn bytes at d ≡ decodeOn bytes (at + sizeOf 2) (flowAdded d (flowAt bytes at))
   unfolding fault after
-  flow-read t e =
+  flow-read inside t e =
       let o : getD bytes at 0 ≡ 1 → ⊥ = omega arith in
       let q = ne-eqb _ _ o in
-      let six = size-flow (getD bytes at 0) t in
-      let n : sizeOf (getD bytes at 0) ≡ 0 → ⊥ = omega arith in
+      let size : sizeOf (getD bytes at 0) ≡ sizeOf 2 = ap sizeOf t in
+      let n : sizeOf (getD bytes at 0) ≡ 0 → ⊥ = omega (arith, flow-some) in
       let l : at + sizeOf (getD bytes at 0) ≤ length bytes = omega arith in
-      decode-go bytes at d (omega arith) (omega arith) (simp (ne-eqb _ _ n, le-ltb _ _ l, q, e)) ∙ rw (← six) (ap (decodeOn bytes (at + 6)) (simp q))
+      decode-go bytes at d (omega (arith, flow-some)) (omega arith) (simp (ne-eqb _ _ n, le-ltb _ _ l, q, e))
+      ∙ rw size (ap (decodeOn bytes (at + sizeOf 2)) (simp q))
 
 -- How far the flows with numbers below n bring `next`.
 record NextUpto (s : Site) (n next : ℕ) : Type 0 where
@@ -206,41 +211,42 @@ module _ (s : Site) (n next : ℕ) where
   }
 
 module _ (s : Site) (g : Formed s) (bytes : List ℕ) where
+  -- A command lies within the bytes.
+  node-inside : (k at : ℕ) (rest : List ℕ) → drop at bytes ≡ nodeBytes s k ++ rest → at + sizeOf 1 ≤ length bytes
+  node-inside k at rest e =
+      omega (arith, node-some, left-long bytes at _ e, length-append (nodeBytes s k) rest, node-size s k)
+
+  flow-inside : (n at : ℕ) (rest : List ℕ) → drop at bytes ≡ flowBytes s n ++ rest → at + sizeOf 2 ≤ length bytes
+  flow-inside n at rest e =
+      omega (arith, flow-some, left-long bytes at _ e, length-append (flowBytes s n) rest, flow-size s n)
+
   -- The reading of one command, with what is left then.
   node-step : (k at : ℕ) (rest : List ℕ) → k < s .links → drop at bytes ≡ nodeBytes s k ++ rest
-      → (decodeOn bytes at (draft s k 0 0) ≡ decodeOn bytes (at + 6) (draft s (k + 1) 0 0)) × (drop (at + 6) bytes ≡ rest)
-  unfolding nodeBytes bytesOf
+      → (decodeOn bytes at (draft s k 0 0) ≡ decodeOn bytes (at + sizeOf 1) (draft s (k + 1) 0 0)) × (drop (at + sizeOf 1) bytes ≡ rest)
+  unfolding nodeBytes
   node-step k at rest h e = (
-    node-read bytes at (draft s k 0 0) (omega (arith, left-long bytes at _ e)) (head-at bytes at _ e)
+    node-read bytes at (draft s k 0 0) (node-inside k at rest e) (head-at bytes at _ e)
         (rw there (node-clean s k (g .nodes k h) (g .shape .parents) (omega (arith, g .few))))
-        ∙ ap (λ (d : Draft). decodeOn bytes (at + 6) d) (rw there (node-put s g k h)),
-    left-at bytes at _ 6 e,
+        ∙ ap (λ (d : Draft). decodeOn bytes (at + sizeOf 1) d) (rw there (node-put s g k h)),
+    left-at bytes at _ (sizeOf 1) e ∙ drop-at (nodeBytes s k) rest (sizeOf 1) (node-size s k),
   )
     where
       there : nodeAt bytes at ≡ nodeOf s k
       there = node-there s k (g .nodes k h) bytes rest at e
 
   flow-step : (n next at : ℕ) (rest : List ℕ) → n < 64 → next ≤ n → LiveAt s n → drop at bytes ≡ flowBytes s n ++ rest
-      → (decodeOn bytes at (draft s (s .links) n next) ≡ decodeOn bytes (at + 6) (draft s (s .links) (n + 1) (n + 1))) × (drop (at + 6) bytes ≡ rest)
-  unfolding flowBytes bytesOf
+      → (decodeOn bytes at (draft s (s .links) n next) ≡ decodeOn bytes (at + sizeOf 2) (draft s (s .links) (n + 1) (n + 1)))
+      × (drop (at + sizeOf 2) bytes ≡ rest)
+  unfolding flowBytes
   flow-step n next at rest h l f e = (
-    flow-read bytes at (draft s (s .links) n next) (omega (arith, left-long bytes at _ e)) (head-at bytes at _ e)
+    flow-read bytes at (draft s (s .links) n next) (flow-inside n at rest e) (head-at bytes at _ e)
         (rw there (flow-clean s n f next l))
-        ∙ ap (λ (d : Draft). decodeOn bytes (at + 6) d) (rw there (flow-put s g n next h f)),
-    left-at bytes at _ 6 e,
+        ∙ ap (λ (d : Draft). decodeOn bytes (at + sizeOf 2) d) (rw there (flow-put s g n next h f)),
+    left-at bytes at _ (sizeOf 2) e ∙ drop-at (flowBytes s n) rest (sizeOf 2) (flow-size s n),
   )
     where
       there : flowAt bytes at ≡ flowOf s n
       there = flow-there s n f bytes rest at e
-
-  -- A command lies within the bytes.
-  node-inside : (k at : ℕ) (rest : List ℕ) → drop at bytes ≡ nodeBytes s k ++ rest → at + 6 ≤ length bytes
-  unfolding nodeBytes bytesOf
-  node-inside k at rest e = omega (arith, left-long bytes at _ e)
-
-  flow-inside : (n at : ℕ) (rest : List ℕ) → drop at bytes ≡ flowBytes s n ++ rest → at + 6 ≤ length bytes
-  unfolding flowBytes bytesOf
-  flow-inside n at rest e = omega (arith, left-long bytes at _ e)
 
   -- From flow number n on the reading comes to an index m where `rest` is left.
   abbrev FlowsRead : ℕ → ℕ → ℕ → List ℕ → Type 0
@@ -275,8 +281,8 @@ module _ (s : Site) (g : Formed s) (bytes : List ℕ) where
       go (inr f) ih =
           let there = rw (← live-bytes s n (f .live)) at here in
           let v = flow-step n next at after-n (omega arith) (w .most) f there in
-          onward n next at (n + 1) (n + 1) (at + 6) rest (v .0)
-          (ih (n + 1) (at + 6) rest (omega arith) (next-live s n next f w) (flow-inside n at after-n there) (v .1))
+          onward n next at (n + 1) (n + 1) (at + sizeOf 2) rest (v .0)
+          (ih (n + 1) (at + sizeOf 2) rest (omega arith) (next-live s n next f w) (flow-inside n at after-n there) (v .1))
 
   -- From the node at index k on, with r nodes left.
   nodes-read : (r k at : ℕ) (rest : List ℕ) → k + r ≡ s .links → at ≤ length bytes → drop at bytes ≡ joined (nodeBytes s) r k ++ rest
@@ -286,7 +292,7 @@ module _ (s : Site) (g : Formed s) (bytes : List ℕ) where
   nodes-read (suc r) k at rest c h e =
       let there = e ∙ append-assoc (nodeBytes s k) (joined (nodeBytes s) r (k + 1)) rest in
       let v = node-step k at (joined (nodeBytes s) r (k + 1) ++ rest) (omega arith) there in
-      let u = nodes-read r (k + 1) (at + 6) rest (omega arith) (node-inside k at _ there) (v .1) in
+      let u = nodes-read r (k + 1) (at + sizeOf 1) rest (omega arith) (node-inside k at _ there) (v .1) in
       (u .0, v .0 ∙ u .1, u .2, u .3)
 
 -- Bytes that begin with the commands of s, wherever they go on.

@@ -16,7 +16,7 @@ use Rattle.pinwheel.specs.Outcome.{Outcome, refused}
 use Rattle.site.specs.Sites.{withFlow}
 use Rattle.site.proofs.Laws.Choices.{cond-same}
 use Rattle.format.specs.Commands.{sizeOf}
-use Rattle.format.proofs.Laws.{size-node, size-flow, size-most}
+use Rattle.format.proofs.Laws.{size-most}
 use Rattle.limits.specs.declared.Node.{Node}
 use Rattle.reader.specs.declared.Draft.{Draft}
 use Rattle.reader.specs.Read.{nodeAt, flowAt, nodeFault, flowFault}
@@ -26,20 +26,25 @@ use Rattle.reader.proofs.Laws.Decode.{fault-none}
 
 -- How far a reading can come: a NODE makes one of at most 63 links, and a FLOW raises the next number, at most 64.
 record Within (at : ℕ) (d : Draft) : Type 0 where
-  place : at ≤ 6 * (d .site .links + d .next)
+  place : at ≤ sizeOf 1 * d .site .links + sizeOf 2 * d .next
   few : d .site .links ≤ 63
   low : d .next ≤ 64
 
 within-start : Within 0 blank
 within-start = record { place = omega arith; few = omega arith; low = omega arith }
 
-within-node : (at : ℕ) (d : Draft) (n : Node) → Within at d → nodeFault d n ≡ 0 → Within (at + 6) (nodeAdded d n)
-unfolding nodeAdded withNode
+-- So a command begins at index 762 at most.
+within-most : (at : ℕ) (d : Draft) → Within at d → at ≤ 762
+unfolding sizeOf
+within-most at d w = omega (arith, w .place, w .few, w .low)
+
+within-node : (at : ℕ) (d : Draft) (n : Node) → Within at d → nodeFault d n ≡ 0 → Within (at + sizeOf 1) (nodeAdded d n)
+unfolding nodeAdded withNode sizeOf
 within-node at d n w e =
     let room = node-room d n e in record { place = omega (arith, w .place); few = omega arith; low = w .low }
 
-within-flow : (at : ℕ) (d : Draft) (f : Flow) → Within at d → flowFault d f ≡ 0 → Within (at + 6) (flowAdded d f)
-unfolding flowAdded withFlow
+within-flow : (at : ℕ) (d : Draft) (f : Flow) → Within at d → flowFault d f ≡ 0 → Within (at + sizeOf 2) (flowAdded d f)
+unfolding flowAdded withFlow sizeOf
 within-flow at d f w e =
     let number = flow-number d f e in
     record { place = omega (arith, w .place, number .1); few = w .few; low = omega (arith, number .0) }
@@ -48,8 +53,8 @@ within-more : (bytes : List ℕ) (at : ℕ) (d : Draft) → Within at d → faul
     → Within (at + sizeOf (getD bytes at 0)) (after bytes at d)
 within-more bytes at d w e =
     elim (fault-none bytes at d e .2) [
-      | inl f ↦ rw (f .2, ← size-node (getD bytes at 0) (f .0)) (within-node at d (nodeAt bytes at) w (f .1))
-      | inr f ↦ rw (f .2, ← size-flow (getD bytes at 0) (f .0)) (within-flow at d (flowAt bytes at) w (f .1))
+      | inl f ↦ rw (f .2, f .0) (within-node at d (nodeAt bytes at) w (f .1))
+      | inr f ↦ rw (f .2, f .0) (within-flow at d (flowAt bytes at) w (f .1))
     ]
 
 -- Bytes that agree in the first 1,024 places.
@@ -64,7 +69,7 @@ stepFrom steps bytes at d =
     cond (eqb (getD bytes at 0) 255) (endOf (length bytes) at (d .site))
     (cond (eqb (fault bytes at d) 0) (decodeFrom steps bytes (at + sizeOf (getD bytes at 0)) (after bytes at d)) (refused (fault bytes at d) at))
 
-module _ (xs ys : List ℕ) (w : Agreeing xs ys) (at : ℕ) (room : at + 6 ≤ 1024) where
+module _ (xs ys : List ℕ) (w : Agreeing xs ys) (at : ℕ) (room : at + 5 < 1024) where
   node-alike : nodeAt xs at ≡ nodeAt ys at
   node-alike = sym (node-at xs at _ _ _ refl refl refl)
       ∙ node-at ys at _ _ _ (w .same (at + 1) (omega arith))
@@ -107,17 +112,17 @@ module _ (xs ys : List ℕ) (w : Agreeing xs ys) (at : ℕ) (room : at + 6 ≤ 1
       (cond-same (eqb (getD ys at 0) 255) (λ _. end-alike (d .site))
       (λ _. cond-same (eqb (fault ys at d) 0) (λ e. next (eqb-true _ _ e)) (λ _. refl)))
 
--- The steps never run out before the answer: a command begins at index 762 at most.
+-- The steps never run out before the answer.
 alike-from : (xs ys : List ℕ) → Agreeing xs ys → (f g at : ℕ) (d : Draft) → Within at d → 1024 ≤ at + f → 1024 ≤ at + g
     → decodeFrom f xs at d ≡ decodeFrom g ys at d
 unfolding decodeFrom
-alike-from xs ys w zero g at d h p q = absurd (omega (arith, h .place, h .few, h .low))
-alike-from xs ys w (suc f) zero at d h p q = absurd (omega (arith, h .place, h .few, h .low))
+alike-from xs ys w zero g at d h p q = absurd (omega (arith, within-most at d h))
+alike-from xs ys w (suc f) zero at d h p q = absurd (omega (arith, within-most at d h))
 alike-from xs ys w (suc f) (suc g) at d h p q =
-    let l : at < length xs = omega (arith, w .left, h .place, h .few, h .low) in
-    let m : at < length ys = omega (arith, w .right, h .place, h .few, h .low) in
+    let l : at < length xs = omega (arith, w .left, within-most at d h) in
+    let m : at < length ys = omega (arith, w .right, within-most at d h) in
     simp (lt-ltb _ _ l, lt-ltb _ _ m)
-    (step-alike xs ys w at (omega (arith, h .place, h .few, h .low)) f g d
+    (step-alike xs ys w at (omega (arith, within-most at d h)) f g d
     (λ e. let some = fault-none ys at d e .0 in
     alike-from xs ys w f g (at + sizeOf (getD ys at 0)) (after ys at d) (within-more ys at d h e) (omega arith) (omega arith)))
 

@@ -129,22 +129,23 @@ module _ (s : Site) (n : ℕ) where
     pub passed-idle : (m : ℕ) → (getD (s .states) n 0 ≡ 1 → ⊥) → m ≡ at → Passed (flowIfLive s) 64 start (n + 1) m
     passed-idle m e q = passed-more (flowIfLive s) 64 start n at p m l (omega (arith, q, ap length (idle-bytes e)))
 
-  flow-few : length (flowIfLive s n) ≤ 6
-  unfolding flowIfLive flowBytes bytesOf
+  flow-few : length (flowIfLive s n) ≤ sizeOf 2
+  unfolding flowIfLive
   flow-few = go (live s n)
     where
-      go : (t : Bool) → length (cond t (flowBytes s n) []) ≤ 6
-      go true = omega arith
+      go : (t : Bool) → length (cond t (flowBytes s n) []) ≤ sizeOf 2
+      go true = omega (arith, flow-size s n)
       go false = omega arith
 
-flows-from : (s : Site) (r n : ℕ) → length (joined (flowIfLive s) r n) ≤ 6 * r
-unfolding joined
+flows-from : (s : Site) (r n : ℕ) → length (joined (flowIfLive s) r n) ≤ sizeOf 2 * r
+unfolding joined sizeOf
 flows-from s zero n = omega arith
 flows-from s (suc r) n =
     omega (arith, length-append (flowIfLive s n) (joined (flowIfLive s) r (n + 1)), flow-few s n, flows-from s r (n + 1))
 
 -- So the flows take 384 bytes at most.
 pub flows-few : (s : Site) → length (joined (flowIfLive s) 64 0) ≤ 384
+unfolding sizeOf
 flows-few s = flows-from s 64 0
 
 -- Items of one size.
