@@ -5,7 +5,7 @@ use schedule::Verdict;
 use site::Flow;
 use site::Site;
 ghost use mathlib.Core.Path.{_≡_};
-ghost use Prim.Native.Nat.{_+_, _<_, _≤_};
+ghost use Prim.Native.Nat.{_+_, _<_};
 ghost use lib.ListN.{length};
 ghost use Rattle.schedule.specs.Judge.{ruling, withSite};
 ghost use Rattle.reader.specs.Read.{nodeAt, flowAt, nodeFault, nodeAdded, flowAdded};

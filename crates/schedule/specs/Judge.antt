@@ -1,5 +1,5 @@
 -- 01, the checks after END: 11 for every parent, then 12, then 13.
-use Prim.Native.Nat.{ℕ, _+_}
+use Prim.Native.Nat.{_+_}
 use mathlib.Core.Bool.{cond}
 use lib.Dec.{ltb, leb}
 use Rattle.pinwheel.specs.Outcome.{Outcome, accepted, refused}

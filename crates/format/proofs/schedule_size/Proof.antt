@@ -1,5 +1,4 @@
 -- Right because it tells the one command by its byte.
-use borrow.Author.Needs.{needs}
 use Rattle.format.proofs.Laws.{size-link, size-no-link}
 use Rattle.format.proofs.schedule_size.Statement.{statement}
 use Rattle.format.proofs.schedule_size.Tie as tie

@@ -1,6 +1,5 @@
 -- Right because the links and FF stand one after the other, and their number of bytes is known before the first is stored.
 use borrow.Author.Needs.{needs}
-use lib.ListN.{length-set}
 use native.Mathlib.Omega.{arith}
 use Rattle.writer.proofs.Laws.Write.{links-size, links-few, written-short, written-all, schedule-size, schedule-stored}
 use Rattle.writer.proofs.put_schedule.Statement.{statement}

@@ -2,7 +2,6 @@
 use borrow.Author.Needs.{needs}
 use Prim.Native.Nat.{_-_, _≤_}
 use mathlib.Core.Path.{_≡_, sym, _∙_}
-use native.Mathlib.Omega.{arith}
 use Rattle.pinwheel.specs.Search.{firstIn}
 use Rattle.pinwheel.proofs.Laws.Search.{first-hit, first-miss, first-end}
 use Rattle.limits.specs.Check.{illAt, firstIll}
