@@ -1,6 +1,6 @@
 // What the test programs share: lines of text with plans in hexadecimal or numbers in decimal, and what they print.
 use writer::Written;
-ghost use Prim.Native.Nat.{_≤_, _<_};
+ghost use Prim.Native.Nat.{_≤_, _<_, min};
 ghost use mathlib.Core.Path.{_≡_};
 ghost use lib.ListN.{length};
 
@@ -24,11 +24,13 @@ pub fn plan_space() -> [u8; 2048]
     [0; 2048]
 }
 
-// The index of the line's end.
+// The index of the end of the line that begins at `start`, and the text's length where nothing begins there.
 pub fn line_end(text: &[u8], start: usize) -> usize
-    requires { ⌜ start ≤ length (now text) ⌝ }
-    ensures { λ r. ⌜ (start ≤ r) × (r ≤ length (now (text .entry))) ⌝ }
+    ensures { λ r. ⌜ (min start (length (now (text .entry))) ≤ r) × (r ≤ length (now (text .entry))) ⌝ }
 {
+    if text.len() < start {
+        return text.len();
+    }
     let mut end = start;
     while end < text.len() {
         if text[end] == b'\n' {
@@ -143,12 +145,25 @@ fn with_digit(value: usize, digit: u8) -> usize
     value
 }
 
+// No number is found in the line.
+fn no_number(line: &[u8]) -> Number
+    ensures { λ r. ⌜ r .next ≡ length (now (line .entry)) ⌝ }
+{
+    Number {
+        found: false,
+        value: 0,
+        next: line.len(),
+    }
+}
+
 // The first decimal number of the line from `start` on.
 pub fn next_number(line: &[u8], start: usize) -> Number
-    requires { ⌜ start ≤ length (now line) ⌝ }
-    ensures { λ r. ⌜ (start ≤ r .next) × (r .next ≤ length (now (line .entry))) ⌝ }
-    ensures moves { λ r. ⌜ (start < length (now (line .entry)) → start < r .next) ⌝ }
+    ensures { λ r. ⌜ (min start (length (now (line .entry))) ≤ r .next) × (r .next ≤ length (now (line .entry)))
+        × (start < length (now (line .entry)) → start < r .next) ⌝ }
 {
+    if line.len() < start {
+        return no_number(line);
+    }
     let first = number_start(line, start);
     let mut value: usize = 0;
     let mut at = first;
@@ -161,11 +176,7 @@ pub fn next_number(line: &[u8], start: usize) -> Number
         at += 1;
     }
     if at == first {
-        return Number {
-            found: false,
-            value: 0,
-            next: line.len(),
-        };
+        return no_number(line);
     }
     Number {
         found: true,

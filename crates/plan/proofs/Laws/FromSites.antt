@@ -3,7 +3,8 @@ use Prim.Native.Nat.{ℕ, zero, suc, _+_, _-_, _<_, _≤_}
 use mathlib.Core.Path.{_≡_, refl, sym, _∙_, ap}
 use mathlib.Core.List.{List, _++_, append-assoc}
 use mathlib.Core.Logic.{_⊎_, inl, inr, ⊎-elim}
-use mathlib.Core.Bool.{true}
+use mathlib.Core.Bool.{true, cond}
+use lib.Dec.{eqb}
 use lib.ListN.{length, getD, take, drop, take-append-drop, length-append, set, replicate, length-drop, List·getD-eq-default}
 use lib.Seq.{drop-at}
 use borrow.Author.Tests.{le-ltb, lt-leb, eq-eqb, ne-eqb, eqb-true}
@@ -164,28 +165,21 @@ module _ (s : Site) (g : Formed s) where
 
 -- A NODE or a FLOW that passes its checks is read, and the reading goes on behind it.
 module _ (bytes : List ℕ) (at : ℕ) (d : Draft) where
+  command-read : (k : ℕ) → (k ≡ 255 → ⊥) → 1 ≤ sizeOf k → at + sizeOf k ≤ length bytes → getD bytes at 0 ≡ k
+      → cond (eqb k 1) (nodeFault d (nodeAt bytes at)) (flowFault d (flowAt bytes at)) ≡ 0
+      → decodeOn bytes at d ≡ decodeOn bytes (at + sizeOf k) (cond (eqb k 1) (nodeAdded d (nodeAt bytes at)) (flowAdded d (flowAt bytes at)))
+  unfolding fault after
+  command-read k other some inside t e =
+      let n : sizeOf k ≡ 0 → ⊥ = omega arith in
+      rw t at (decode-go bytes at d (omega arith) (λ z. other (sym t ∙ z)) (rw (t, ne-eqb _ _ n, le-ltb (length bytes) (at + sizeOf k) inside) e))
+
   node-read : at + sizeOf 1 ≤ length bytes → getD bytes at 0 ≡ 1 → nodeFault d (nodeAt bytes at) ≡ 0
       → decodeOn bytes at d ≡ decodeOn bytes (at + sizeOf 1) (nodeAdded d (nodeAt bytes at))
-  unfolding fault after
-  node-read inside t e =
-      let q = eq-eqb _ _ t in
-      let size : sizeOf (getD bytes at 0) ≡ sizeOf 1 = ap sizeOf t in
-      let n : sizeOf (getD bytes at 0) ≡ 0 → ⊥ = omega (arith, node-some) in
-      let l : at + sizeOf (getD bytes at 0) ≤ length bytes = omega arith in
-      decode-go bytes at d (omega (arith, node-some)) (omega arith) (simp (ne-eqb _ _ n, le-ltb _ _ l, q, e))
-      ∙ rw size (ap (decodeOn bytes (at + sizeOf 1)) (simp q))
+  node-read = command-read 1 (omega arith) node-some
 
   flow-read : at + sizeOf 2 ≤ length bytes → getD bytes at 0 ≡ 2 → flowFault d (flowAt bytes at) ≡ 0
       → decodeOn bytes at d ≡ decodeOn bytes (at + sizeOf 2) (flowAdded d (flowAt bytes at))
-  unfolding fault after
-  flow-read inside t e =
-      let o : getD bytes at 0 ≡ 1 → ⊥ = omega arith in
-      let q = ne-eqb _ _ o in
-      let size : sizeOf (getD bytes at 0) ≡ sizeOf 2 = ap sizeOf t in
-      let n : sizeOf (getD bytes at 0) ≡ 0 → ⊥ = omega (arith, flow-some) in
-      let l : at + sizeOf (getD bytes at 0) ≤ length bytes = omega arith in
-      decode-go bytes at d (omega (arith, flow-some)) (omega arith) (simp (ne-eqb _ _ n, le-ltb _ _ l, q, e))
-      ∙ rw size (ap (decodeOn bytes (at + sizeOf 2)) (simp q))
+  flow-read = command-read 2 (omega arith) flow-some
 
 -- How far the flows with numbers below n bring `next`.
 record NextUpto (s : Site) (n next : ℕ) : Type 0 where

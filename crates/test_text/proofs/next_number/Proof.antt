@@ -12,6 +12,12 @@ Inv-loop line start first value₀ at₀ value at = (start ≤ first) × (first 
 abbrev μ-loop : tie.MeasureT-loop
 μ-loop line start first value₀ at₀ value at = length line - at
 
+no-number-requires : tie.Need-no-number-requires Inv-loop μ-loop
+no-number-requires c κs = search needs
+
+returns : tie.Need-returns Inv-loop μ-loop
+returns c = search needs
+
 number-start-requires : tie.Need-number-start-requires Inv-loop μ-loop
 number-start-requires c κs = search needs
 
@@ -36,13 +42,16 @@ loop-less c = search needs
 loop-again : tie.Need-loop-again Inv-loop μ-loop
 loop-again c = search needs
 
-returns : tie.Need-returns Inv-loop μ-loop
-returns c = search needs
+no-number-requires-2 : tie.Need-no-number-requires-2 Inv-loop μ-loop
+no-number-requires-2 c κs = search needs
 
 returns-2 : tie.Need-returns-2 Inv-loop μ-loop
 returns-2 c = search needs
 
+returns-3 : tie.Need-returns-3 Inv-loop μ-loop
+returns-3 c = search needs
+
 pub next-number-spec : {M : Type 1} → statement M
 next-number-spec =
     tie.close
-    (tie.spec Inv-loop μ-loop number-start-requires loop-holds shared-slice-read-digit digit-requires with-digit-requires add-at loop-less loop-again returns returns-2)
+    (tie.spec Inv-loop μ-loop no-number-requires returns number-start-requires loop-holds shared-slice-read-digit digit-requires with-digit-requires add-at loop-less loop-again no-number-requires-2 returns-2 returns-3)
