@@ -5,7 +5,7 @@ use mathlib.Core.Bool.{Bool, true, false, cond}
 use mathlib.Core.List.{List, [], _∷_, _++_}
 use mathlib.Core.Logic.{_↔_}
 use lib.Dec.{eqb, ltb, leb}
-use lib.ListN.{length, getD, drop, replicate, length-append, drop-of-length-le}
+use lib.ListN.{length, getD, drop, length-append, drop-of-length-le}
 use lib.Seq.{drop-cons, take-at, getD-append-seam}
 use borrow.Author.Tests.{le-ltb, ne-eqb, eqb-true, eqb-false, ltb-true, ltb-false}
 use native.Mathlib.Omega.{arith}
@@ -28,10 +28,7 @@ use Rattle.reader.proofs.Laws.Decode.{decode-out, decode-end, decode-stop}
 use Rattle.writer.specs.Write.{nodeBytes, flowBytes, flowIfLive, commandBytes, planBytes}
 use Rattle.plan.specs.Words.{InForm}
 use Rattle.plan.proofs.Laws.FromBytes.{Reached, Stop, out, end, fails, stops}
-use Rattle.plan.proofs.Laws.FromSites.{begun-read}
-
-abbrev zeros : List ℕ
-zeros = replicate 63 0
+use Rattle.plan.proofs.Laws.FromSites.{zeros, begun-read}
 
 -- The three ways that END ends.
 pub data EndWay (size at : ℕ) (s : Site) : Type 0 where

@@ -7,7 +7,7 @@ use mathlib.Core.Bool.{true, cond}
 use lib.Dec.{eqb}
 use lib.ListN.{length, getD, take, drop, take-append-drop, length-append, set, replicate, length-drop, List·getD-eq-default}
 use lib.Seq.{drop-at}
-use borrow.Author.Tests.{le-ltb, lt-leb, eq-eqb, ne-eqb, eqb-true}
+use borrow.Author.Tests.{le-ltb, lt-leb, ne-eqb, eqb-true}
 use native.Mathlib.Nat.{eq-or-lt-of-le}
 use native.Mathlib.Omega.{arith}
 use Rattle.site.specs.declared.Site.{Site}
@@ -31,7 +31,8 @@ use Rattle.format.proofs.Laws.{node-some, flow-some}
 use Rattle.reader.proofs.Laws.Decode.{decodeOn, decode-start, decode-go}
 use Rattle.writer.proofs.Laws.Write.{node-size, flow-size, live-bytes, idle-bytes}
 
-abbrev zeros : List ℕ
+-- No offsets, and no periods.
+abbrev pub zeros : List ℕ
 zeros = replicate 63 0
 
 -- The first k nodes of a site and its flows with numbers below n, without a schedule.

@@ -3,19 +3,16 @@ use Prim.Native.Nat.{ℕ, suc, _+_, _-_, _<_, _≤_}
 use mathlib.Core.Path.{_≡_, sym, _∙_, ap}
 use mathlib.Core.List.{List, _++_}
 use mathlib.Core.Logic.{⊎-elim}
-use lib.ListN.{length, getD, take, set, replicate, length-append, length-replicate, getD-replicate, List·getD-eq-default, List·getD-append}
+use lib.ListN.{length, getD, take, set, replicate, length-append, length-replicate, List·getD-append}
 use lib.Seq.{length-take-le, take-suc, append-snoc, getD-take, getD-append-add, set-at, set-getD, ext-getD}
 use native.Mathlib.Numerals.{add-one}
 use native.Mathlib.Omega.{arith}
 use Rattle.pinwheel.proofs.Laws.Search.{lt-or-le}
+use Rattle.schedule.proofs.Laws.Schedule.{getD-replicated}
 
 -- The list with 0 from index k on.
 unfoldable pub upto : ℕ → List ℕ → List ℕ
 upto k xs = take k xs ++ replicate (length xs - k) 0
-
--- A list of zeros has 0 at every index.
-zeros-at : (n i : ℕ) → getD {A = ℕ} (replicate n 0) i 0 ≡ 0
-zeros-at n i = ⊎-elim (λ l. getD-replicate n i 0 0 l) (λ l. List·getD-eq-default (replicate n 0) 0 (rw length-replicate l)) (lt-or-le i n)
 
 module _ (xs : List ℕ) where
   pub upto-long : (k : ℕ) → k ≤ length xs → length (upto k xs) ≡ length xs
@@ -30,7 +27,7 @@ module _ (xs : List ℕ) where
   unfolding upto
   upto-above k i h l =
       let e : i ≡ length (take k xs) + (i - k) = rw (length-take-le k xs h) (omega arith) in
-      ap (λ (m : ℕ). getD (upto k xs) m 0) e ∙ getD-append-add (take k xs) _ (i - k) 0 ∙ zeros-at (length xs - k) (i - k)
+      ap (λ (m : ℕ). getD (upto k xs) m 0) e ∙ getD-append-add (take k xs) _ (i - k) 0 ∙ getD-replicated (length xs - k) (i - k) 0
 
   pub upto-none : upto 0 xs ≡ replicate (length xs) 0
   unfolding upto

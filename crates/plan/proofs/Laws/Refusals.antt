@@ -3,7 +3,7 @@ use Prim.Native.Nat.{ℕ, _+_, _<_}
 use mathlib.Core.Path.{_≡_, sym, _∙_, ap}
 use mathlib.Core.List.{List}
 use mathlib.Core.Logic.{_↔_}
-use lib.ListN.{length, getD, replicate}
+use lib.ListN.{length, getD}
 use borrow.Author.Tests.{lt-ltb, eq-eqb, ne-eqb}
 use native.Mathlib.Omega.{arith}
 use Rattle.pinwheel.specs.Outcome.{refused}
@@ -18,12 +18,12 @@ use Rattle.reader.proofs.Laws.Decode.{decodeOn, decode-out, decode-end, decode-
 use Rattle.plan.specs.Words.{Begun, FormFails, no-end, command, bare-end, more}
 use Rattle.plan.proofs.Laws.Drafts.{NextOf, drafted-next}
 use Rattle.plan.proofs.Laws.FromBytes.{Reached, reached-begun, Stop, out, end, fails, stops}
-use Rattle.plan.proofs.Laws.FromSites.{begun-read}
+use Rattle.plan.proofs.Laws.FromSites.{zeros, begun-read}
 use Rattle.plan.proofs.Laws.Faults.{fault-first, first-some}
 use Rattle.plan.proofs.Laws.Acceptance as way
 
 -- A site without a schedule.
-bare-same : (s : Site) → Unscheduled s → withSchedule s (replicate 63 0) (replicate 63 0) ≡ s
+bare-same : (s : Site) → Unscheduled s → withSchedule s zeros zeros ≡ s
 unfolding withSchedule
 bare-same s b = λ i. record {
   links = s .links;

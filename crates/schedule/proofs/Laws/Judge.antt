@@ -1,4 +1,4 @@
--- The searches of 11, 12 and 13 in words, and the ways that the judgement ends.
+-- The search of 11 in words, and the ways that the judgement ends.
 use Prim.Native.Nat.{ℕ, _+_, _≤_, _<_}
 use mathlib.Core.Path.{_≡_, refl, sym, _∙_}
 use mathlib.Core.Bool.{Bool, true, false, not, false≢true, and-eq-true-iff}

@@ -240,7 +240,7 @@ getD-listed f zero i k l = absurd (omega arith)
 getD-listed f (suc r) i zero l = rw add-zero
 getD-listed f (suc r) i (suc k) l = let e : i + suc k ≡ i + 1 + k = omega arith in rw e (getD-listed f r (i + 1) k (omega arith))
 
-getD-replicated : (n i x : ℕ) → getD (replicate n x) i x ≡ x
+pub getD-replicated : (n i x : ℕ) → getD (replicate n x) i x ≡ x
 getD-replicated zero i x = refl
 getD-replicated (suc n) zero x = refl
 getD-replicated (suc n) (suc i) x = getD-replicated n i x
