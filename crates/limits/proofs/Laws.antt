@@ -1,4 +1,4 @@
--- What is proved of check 14: what a site is that passes it, what its slots and routes have, and that flows may come and go. The modules named
+-- What is proved of check 14: what a site is that passes it, what a call asks of it, what its slots and routes have, and that flows may come and go. The modules named
 -- here hold the lemmas.
 pub mod Tests
 pub mod Forms
@@ -9,9 +9,12 @@ pub mod Empty
 pub mod Flows
 use Prim.Native.Nat.{ℕ, _+_, _≤_, _<_}
 use mathlib.Core.Path.{_≡_, _∙_}
-use mathlib.Core.Bool.{true, false}
+use mathlib.Core.Bool.{true, false, not}
+use mathlib.Core.List.{List}
 use mathlib.Core.Logic.{_↔_}
+use lib.Dec.{eqb}
 use lib.ListN.{length, getD}
+use borrow.Author.Tests.{eq-eqb, eqb-true, not-false}
 use native.Mathlib.Omega.{arith}
 use Rattle.site.specs.declared.Site.{Site}
 use Rattle.site.specs.declared.Flow.{Flow}
@@ -22,8 +25,9 @@ use Rattle.site.specs.Reservations.{gapsJudged, routeOf, widthAt, load, along, 
 use Rattle.site.specs.Words.{Leads}
 use Rattle.schedule.proofs.Laws as slots
 use Rattle.site.proofs.Laws.Tree.{route-leads, route-falls}
-use Rattle.limits.specs.Check.{flowOf, passesOf}
+use Rattle.limits.specs.Check.{flowOf, passesOf, callFault}
 use Rattle.limits.specs.Words.{FlowGood, Sound}
+use Rattle.limits.proofs.Laws.Tests.{passed}
 use Rattle.limits.proofs.Laws.Passing.{judged-when, passes-parts}
 use Rattle.limits.proofs.Laws.Flows.{live-few, live-fits, parent-below, route-short, without-none, without-with}
 use Rattle.limits.proofs.Laws.Flows.{sound-timed, sound-with, sound-without}
@@ -35,6 +39,15 @@ passes-sound s = (
       record { formed = w .0; served = j .0; carried = rw (w .2) (j .1); punctual = rw (w .2) (j .2); own = w .2 },
   λ w. passes-parts s .1
       (w .formed, judged-when s (w .formed) .1 (w .served, rw (← w .own) (w .carried), rw (← w .own) (w .punctual)), w .own),
+)
+
+-- A call that is lent counters gets past 1 and 14 just when there are 576 and the site passes.
+pub call-when : (s : Site) (counters : List ℕ) → (callFault s counters ≡ 0) ↔ ((length counters ≡ 576) × Sound s)
+unfolding callFault
+call-when s counters = (
+  λ e. let a = passed (not (eqb (length counters) 576)) 1 _ (omega arith) e in let b = passed (not (passesOf s)) 14 0 (omega arith) (a .1) in
+      (eqb-true _ _ (not-false _ (a .0)), passes-sound s .0 (not-false _ (b .0))),
+  λ w. simp (eq-eqb (length counters) 576 (w .0), passes-sound s .1 (w .1)),
 )
 
 module _ (s : Site) (e : passesOf s ≡ true) where

@@ -71,3 +71,7 @@ stands s = accepts (judgeOf s) && (same (s .offsets) (offsetsDealt s) && same (s
 -- 01, 14 lets the site pass.
 unfoldable pub passesOf : Site → Bool
 passesOf s = shaped s && (formed s && stands s)
+
+-- 01, the order of a call that is lent counters: 1 where they are not 576, then 14. The first that fails, 0 where neither does.
+unfoldable pub callFault : Site → List ℕ → ℕ
+callFault s counters = cond (not (eqb (length counters) 576)) 1 (cond (not (passesOf s)) 14 0)

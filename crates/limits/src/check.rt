@@ -7,7 +7,7 @@ use site::Flow;
 use site::Site;
 ghost use mathlib.Core.Path.{_≡_};
 ghost use Prim.Native.Nat.{_<_};
-ghost use Rattle.limits.specs.Check.{illNode, illFlow, illAt, firstIll, same, stands, passesOf};
+ghost use Rattle.limits.specs.Check.{illNode, illFlow, illAt, firstIll, same, stands, passesOf, callFault};
 
 // The entries at index i are those of no node within its limits or, past the last link, not all 0.
 fn ill_node(site: Site, i: usize) -> bool
@@ -133,4 +133,17 @@ pub fn passes(site: Site) -> bool
         return false;
     }
     judged_as_it_is(site)
+}
+
+// The first of 1 and 14 that a call with these counters fails, 0 where it fails neither.
+pub fn call_fault(site: Site, counters: &[u32]) -> u8
+    ensures { λ r. ⌜ r ≡ callFault site (now (counters .entry)) ⌝ }
+{
+    if counters.len() != 576 {
+        return 1;
+    }
+    if !passes(site) {
+        return 14;
+    }
+    0
 }

@@ -1,6 +1,7 @@
 // What 01 asks of a site's nodes and flows: their limits, and check 14 of a site that is handed in. Nothing here knows plan bytes.
 mod check;
 
+pub use check::call_fault;
 pub use check::passes;
 use site::Flow;
 ghost use mathlib.Core.Path.{_≡_};

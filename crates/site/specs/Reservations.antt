@@ -9,7 +9,7 @@ use Rattle.site.specs.declared.Site.{Site}
 use Rattle.site.specs.Sites.{used, ofLink, live}
 use Rattle.site.specs.Tree.{route, has}
 
--- The gaps that widths and the sums of 12 and 13 go by: the wanted gaps. Request U2 makes them the periods.
+-- The gaps that widths and the sums of 12, 13, 17 and 18 go by: the wanted gaps. Request U2 makes them the periods.
 unfoldable pub gapsJudged : Site → List ℕ
 gapsJudged s = s .gaps
 
@@ -40,6 +40,15 @@ over s i = ltb (getD (s .capacities) i 0) (load s (i + 1))
 
 unfoldable pub firstOver : Site → ℕ
 firstOver s = first (over s) (used (s .links)) 0
+
+-- 01, 17: the width of a flow with this rate does not fit on the link of node m beside the live ones.
+unfoldable pub unfit : Site → ℕ → ℕ → Bool
+unfit s rate m = ltb (ofLink (s .capacities) m) (load s m + widthAt (gapsJudged s) rate m)
+
+-- 01, 17: the first such link of a route going up, 0 where there is none.
+unfoldable pub firstUnfit : Site → ℕ → List ℕ → ℕ
+firstUnfit s rate [] = 0
+firstUnfit s rate (m ∷ ms) = cond (unfit s rate m) m (firstUnfit s rate ms)
 
 -- The sum of a list of links over a route.
 unfoldable pub along : List ℕ → List ℕ → ℕ

@@ -1,13 +1,13 @@
 -- Routes and reservations in words of 'for all' and 'exists'. The laws of proofs/Laws.antt, and those of the crates above, say that the definitions mean this.
-use Prim.Native.Nat.{ℕ, _≤_, _<_}
+use Prim.Native.Nat.{ℕ, _+_, _≤_, _<_}
 use mathlib.Core.Path.{_≡_}
 use mathlib.Core.Bool.{true}
 use mathlib.Core.List.{List, [], _∷_}
-use lib.ListN.{getD}
+use lib.ListN.{length, getD}
 use Rattle.site.specs.declared.Site.{Site}
 use Rattle.site.specs.Sites.{ofLink, live}
 use Rattle.site.specs.Tree.{up}
-use Rattle.site.specs.Reservations.{gapsJudged, routeOf, load, along}
+use Rattle.site.specs.Reservations.{gapsJudged, routeOf, widthAt, load, along}
 
 -- 01, the list of demand 3: a route that reaches the root. Each number is a node's, and the next is its parent's.
 pub data Leads (parents : List ℕ) : ℕ → List ℕ → Type 0 where
@@ -27,6 +27,21 @@ pub record FullAt (s : Site) (m : ℕ) : Type 0 where
   pub link : (1 ≤ m) × (m ≤ s .links)
   pub over : ofLink (s .capacities) m < load s m
   pub lower : (k : ℕ) → 1 ≤ k → k < m → Carries s k
+
+-- 01, 17: on the link of node m the width of a flow with this rate fits beside the live ones.
+abbrev pub HasRoom : Site → ℕ → ℕ → Type 0
+HasRoom s rate m = load s m + widthAt (gapsJudged s) rate m ≤ ofLink (s .capacities) m
+
+-- It fits on every link of a route.
+pub record RoomAlong (s : Site) (rate : ℕ) (links : List ℕ) : Type 0 where
+  pub each : (j : ℕ) → j < length links → HasRoom s rate (getD links j 0)
+
+-- 01, 17: link m of the route has no room for it, and every link below m on the way up has.
+pub record UnfitAt (s : Site) (rate : ℕ) (links : List ℕ) (m : ℕ) : Type 0 where
+  pub at : ℕ
+  pub link : (at < length links) × (getD links at 0 ≡ m)
+  pub over : ofLink (s .capacities) m < load s m + widthAt (gapsJudged s) rate m
+  pub before : (j : ℕ) → j < at → HasRoom s rate (getD links j 0)
 
 -- 01, Reservations: the judged gaps on the route of flow n sum to at most its deadline.
 abbrev pub OnTime : Site → ℕ → Type 0

@@ -5,9 +5,11 @@ mod tree;
 pub use reservations::delay_bound;
 pub use reservations::first_late;
 pub use reservations::first_over;
+pub use reservations::first_unfit;
+pub use reservations::gaps_along;
 pub use tree::depth;
 ghost use mathlib.Core.Path.{_≡_};
-ghost use Rattle.site.specs.Sites.{emptySite, used, withFlow};
+ghost use Rattle.site.specs.Sites.{emptySite, used, live, withFlow, withoutFlow};
 
 // One value for one plan: node n's entries are at index n - 1, a flow's at its number, and whatever is not in use is 0.
 // A flow's state is 0 for a number not in use and 1 for a live flow.
@@ -64,6 +66,33 @@ pub fn with_flow(site: Site, flow: Flow) -> Site
     next.rates[n] = flow.rate;
     next.deadlines[n] = flow.deadline;
     next
+}
+
+// The site without the flow of that number; a number that no flow can have changes nothing.
+pub fn without_flow(site: Site, number: u8) -> Site
+    ensures { λ r. ⌜ r ≡ withoutFlow site number ⌝ }
+{
+    let n = number as usize;
+    if 64 <= n {
+        return site;
+    }
+    let mut next = site;
+    next.states[n] = 0;
+    next.entries[n] = 0;
+    next.rates[n] = 0;
+    next.deadlines[n] = 0;
+    next
+}
+
+// Whether a flow of that number is live.
+pub fn is_live(site: Site, number: u8) -> bool
+    ensures { λ r. ⌜ r ≡ live site number ⌝ }
+{
+    let n = number as usize;
+    if 64 <= n {
+        return false;
+    }
+    site.states[n] == 1
 }
 
 // How many links a site has, whatever its count says.

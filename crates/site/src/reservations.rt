@@ -1,4 +1,5 @@
 // What live flows keep on the links of their routes.
+use crate::Flow;
 use crate::Site;
 use crate::link_count;
 use crate::tree::parent_of;
@@ -7,10 +8,10 @@ ghost use mathlib.Core.Path.{_≡_};
 ghost use Prim.Native.Nat.{ℕ, _≤_, _<_, _+_};
 ghost use lib.ListN.{length, getD};
 ghost use Rattle.site.specs.Tree.{route};
-ghost use Rattle.site.specs.Reservations.{gapsJudged, load, firstOver, along, firstLate, delayBound};
+ghost use Rattle.site.specs.Reservations.{gapsJudged, load, firstOver, firstUnfit, along, firstLate, delayBound};
 ghost use Rattle.site.specs.Inner.{carried};
 
-// The gaps that widths and the sums of 12 and 13 go by: the wanted gaps.
+// The gaps that widths and the sums of 12, 13, 17 and 18 go by: the wanted gaps.
 fn gaps_judged(site: Site) -> [u16; 63]
     ensures { λ r. ⌜ r ≡ gapsJudged site ⌝ }
 {
@@ -83,6 +84,28 @@ pub fn first_over(site: Site) -> usize
     i
 }
 
+// 01, 17: the first link from the flow's entry node up on which its width does not fit beside the live ones, or 0.
+pub fn first_unfit(site: Site, flow: Flow) -> u8
+    ensures { λ r. ⌜ r ≡ firstUnfit site (flow .rate) (route (site .parents) (flow .entry)) ⌝ }
+{
+    let gaps = gaps_judged(site);
+    let parents = site.parents;
+    let loads = loads_of(site);
+    let mut node = flow.entry;
+    loop {
+        let parent = parent_of(&parents, node);
+        if node <= parent {
+            return 0;
+        }
+        let i = (node - 1) as usize;
+        let width = flow.rate as u32 * value_of(&gaps, node) as u32;
+        if (site.capacities[i] as u32) < loads[i] + width {
+            return node;
+        }
+        node = parent;
+    }
+}
+
 // 01, 13: the first live flow whose judged gaps sum to more than its deadline, or 64.
 pub fn first_late(site: Site) -> usize
     ensures { λ r. ⌜ r ≡ firstLate site ⌝ }
@@ -99,6 +122,15 @@ pub fn first_late(site: Site) -> usize
         n += 1;
     }
     n
+}
+
+// 01, 18: the judged gaps from the node up to the root, summed.
+pub fn gaps_along(site: Site, node: u8) -> u32
+    ensures { λ r. ⌜ r ≡ along (gapsJudged site) (route (site .parents) node) ⌝ }
+{
+    let gaps = gaps_judged(site);
+    let parents = site.parents;
+    sum_along(&gaps, &parents, node)
 }
 
 // 01: G, the sum of the periods on the flow's route.

@@ -25,7 +25,7 @@ use Rattle.site.specs.Sites.{withSchedule}
 use Rattle.schedule.specs.Schedule.{scheduled}
 use Rattle.schedule.proofs.Laws.{judge-gives}
 use Rattle.schedule.proofs.Laws.Rulings.{site-accepted, site-refused}
-use Rattle.limits.specs.Check.{shaped, nodeOf, flowOf, illNode, illFlow, illAt, firstIll, formed, same, accepts, stands, passesOf}
+use Rattle.limits.specs.Check.{shaped, nodeOf, flowOf, illNode, illFlow, illAt, firstIll, formed, same, accepts, stands, passesOf, callFault}
 
 -- A site's type tells how long its lists are.
 pub shaped-site : (s : Site) (us : List Val) → Is the-row s us → shaped s ≡ true
@@ -189,3 +189,18 @@ pub passes-few : (s : Site) → passesOf s ≡ true → s .links ≤ 63
 unfolding passesOf formed
 passes-few s e =
     leb-true _ _ (and-eq-true-iff _ _ .0 (and-eq-true-iff (formed s) _ .0 (and-eq-true-iff (shaped s) _ .0 e .1) .0) .0)
+
+-- The answers to a call that is lent counters.
+module _ (s : Site) (cs : List ℕ) where
+  pub call-counters : (length cs ≡ 576 → ⊥) → 1 ≡ callFault s cs
+  unfolding callFault
+  call-counters n = simp (ne-eqb _ _ n)
+
+  module _ (long : length cs ≡ 576) (t : Bool) (e : t ≡ passesOf s) where
+    pub call-site : not t ≡ true → 14 ≡ callFault s cs
+    unfolding callFault
+    call-site n = simp (eq-eqb _ _ long, ← e, n)
+
+    pub call-passes : not t ≡ false → 0 ≡ callFault s cs
+    unfolding callFault
+    call-passes n = simp (eq-eqb _ _ long, ← e, n)

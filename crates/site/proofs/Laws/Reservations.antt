@@ -1,12 +1,12 @@
 -- What flows keep on the links of their routes: the sums that the code makes on the way up, and how a flow more or less changes them.
 use Prim.Native.Nat.{ℕ, zero, suc, _+_, _-_, _*_, _≤_, _<_}
-use mathlib.Core.Path.{_≡_, refl, _∙_, ap}
+use mathlib.Core.Path.{_≡_, refl, sym, _∙_, ap}
 use mathlib.Core.Bool.{Bool, true, false, cond, _&&_}
 use mathlib.Core.List.{List, [], _∷_}
 use mathlib.Core.Logic.{_⊎_, inl, inr, ⊎-elim}
 use lib.Dec.{eqb, ltb}
 use lib.ListN.{length, getD, set, replicate, length-set, getD-replicate, List·getD-eq-default}
-use lib.Seq.{getD-set-same, getD-set-other}
+use lib.Seq.{getD-set-same, getD-set-other, set-out}
 use borrow.Author.Tests.{lt-ltb, le-ltb, eq-eqb, ne-eqb, eqb-true, eqb-false}
 use native.Mathlib.Nat.{mul-le-mul, suc-mul, eq-or-lt-of-le}
 use native.Mathlib.Numerals.{add-one}
@@ -16,9 +16,9 @@ use Rattle.site.specs.declared.Site.{Site}
 use Rattle.site.specs.declared.Flow.{Flow}
 use Rattle.site.specs.Sites.{ofLink, live, withFields, withFlow, withoutFlow}
 use Rattle.site.specs.Tree.{up, route, has}
-use Rattle.site.specs.Reservations.{gapsJudged, routeOf, widthAt, widthOn, sumTo, load, over, along, late, delayBound}
+use Rattle.site.specs.Reservations.{gapsJudged, routeOf, widthAt, widthOn, sumTo, load, over, unfit, firstUnfit, along, late, delayBound}
 use Rattle.site.specs.Inner.{carried}
-use Rattle.site.proofs.Laws.Tree.{way-up, route-up, route-end, route-root, route-within, up-within}
+use Rattle.site.proofs.Laws.Tree.{link-in, way-up, route-up, route-end, route-root, route-within, up-within}
 
 -- The sum over a route, link by link: `sum` has the links below node n. A step adds at most one entry and goes to a smaller number,
 -- so the sum stays within as many entries as the first node's number.
@@ -216,6 +216,38 @@ module _ (s : Site) (i x : ℕ) (e : x ≡ load s (i + 1)) where
   unfolding over
   over-no l = rw (← e) (le-ltb _ _ l)
 
+-- The way up of a flow with this rate: node n has the parent u.
+module _ (s : Site) (rate n u : ℕ) (e : u ≡ up (s .parents) n) where
+  pub unfit-end : n ≤ u → 0 ≡ firstUnfit s rate (route (s .parents) n)
+  unfolding firstUnfit
+  unfit-end l = rw (route-end (s .parents) n (rw e at l))
+
+  -- The load of its link as it stands in a list of loads, and the link's gap.
+  module _ (h : u < n) (x g : ℕ) (gaps : List ℕ) (is : x ≡ load s (n - 1 + 1)) (q : g ≡ ofLink gaps n) (j : gaps ≡ gapsJudged s) where
+    unfit-test : unfit s rate n ≡ ltb (getD (s .capacities) (n - 1) 0) (x + rate * g)
+    unfolding unfit widthAt
+    unfit-test = let one : n - 1 + 1 ≡ n = omega arith in rw (← link-in (s .capacities) n (omega arith), q, j, is, one)
+
+    unfit-step : firstUnfit s rate (route (s .parents) n) ≡ cond (unfit s rate n) n (firstUnfit s rate (route (s .parents) u))
+    unfolding firstUnfit
+    unfit-step = rw (route-up (s .parents) n (rw e at h), e)
+
+    pub unfit-here : getD (s .capacities) (n - 1) 0 < x + rate * g → n ≡ firstUnfit s rate (route (s .parents) n)
+    unfit-here l = rw (unfit-step, unfit-test, lt-ltb _ _ l)
+
+    pub unfit-next : x + rate * g ≤ getD (s .capacities) (n - 1) 0 → firstUnfit s rate (route (s .parents) u) ≡ firstUnfit s rate (route (s .parents) n)
+    unfit-next l = rw (unfit-step, unfit-test, le-ltb _ _ l)
+
+-- 64 widths of at most 255 * 65535.
+pub load-le : (s : Site) (m : ℕ) → ((i : ℕ) → getD (s .rates) i 0 ≤ 255) → ((i : ℕ) → getD (gapsJudged s) i 0 ≤ 65535) → load s m ≤ 1069531200
+unfolding load
+load-le s m r g = sum-le (widthOn s m) 16711425 64 (λ k. width-on-le s m k r g)
+
+-- A number that the list of states has not is not live.
+pub dead-beyond : (s : Site) (n : ℕ) → length (s .states) ≤ n → false ≡ live s n
+unfolding live
+dead-beyond s n l = rw (List·getD-eq-default (s .states) 0 {n = n} l)
+
 -- A flow number beyond the list enters at the root, whose route is empty.
 pub delay-none : (s : Site) (n : ℕ) → length (s .entries) ≤ n → 0 ≡ delayBound s n
 unfolding delayBound routeOf along
@@ -237,8 +269,13 @@ module _ (f g : ℕ → ℕ) where
       go (inl e) ih = let w : n ≡ k = omega arith in rw (w, sum-ext k (λ i m. h i (λ z. omega arith))) (omega arith)
       go (inr m) ih = rw (h k (λ z. omega arith)) (omega (arith, ih (omega arith)))
 
--- A site with other fields at flow number n: the other flows keep what they kept.
+-- A site with other fields at flow number n: past the lists nothing changes, and the other flows keep what they kept.
 module _ (s : Site) (n state entry rate deadline : ℕ) where
+  pub fields-out : length (s .states) ≤ n → length (s .entries) ≤ n → length (s .rates) ≤ n → length (s .deadlines) ≤ n
+      → s ≡ withFields s n state entry rate deadline
+  fields-out a b c d =
+      sym (rw (set-out (s .states) n state a, set-out (s .entries) n entry b, set-out (s .rates) n rate c, set-out (s .deadlines) n deadline d))
+
   width-other : (m k : ℕ) → (k ≡ n → ⊥) → widthOn (withFields s n state entry rate deadline) m k ≡ widthOn s m k
   unfolding widthOn live routeOf gapsJudged
   width-other m k h =

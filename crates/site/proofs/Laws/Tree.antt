@@ -165,6 +165,10 @@ has-met m (k ∷ ms) (suc j) l e = rw (has-met m ms j (omega arith) e) (either (
 pub has-when : (m : ℕ) (ms : List ℕ) → (has m ms ≡ true) ↔ ((j : ℕ) × (j < length ms) × (getD ms j 0 ≡ m))
 has-when m ms = (has-found m ms, λ w. has-met m ms (w .0) (w .1) (w .2))
 
+-- So no link of a route is the root's.
+pub route-some : (p : List ℕ) (n j : ℕ) → j < length (route p n) → 1 ≤ getD (route p n) j 0
+route-some p n j l = route-within p _ n (has-met _ (route p n) j l refl) .0
+
 -- Where every number up to n but the root's has a parent with a smaller number, n's route reaches the root.
 pub route-leads : (p : List ℕ) (n : ℕ) → ((m : ℕ) → 1 ≤ m → m ≤ n → up p m < m) → Leads p n (route p n)
 route-leads p =

@@ -1,0 +1,63 @@
+-- Admission and release in words of 'for all' and 'exists'. The laws of proofs/Laws.antt say that the definitions mean this.
+use Prim.Native.Nat.{ℕ, _≤_, _<_}
+use mathlib.Core.Path.{_≡_}
+use mathlib.Core.Bool.{true, false}
+use mathlib.Core.List.{List}
+use mathlib.Core.Logic.{_⊎_}
+use lib.ListN.{length}
+use Rattle.pinwheel.specs.Outcome.{Checks, none, check}
+use Rattle.site.specs.declared.Site.{Site}
+use Rattle.site.specs.declared.Flow.{Flow}
+use Rattle.site.specs.Sites.{live}
+use Rattle.site.specs.Tree.{route}
+use Rattle.site.specs.Reservations.{gapsJudged, along}
+use Rattle.site.specs.Words.{RoomAlong, UnfitAt}
+use Rattle.limits.specs.Words.{FlowWithin, FlowGood, Sound}
+
+-- The links of the flow's route.
+abbrev pub links : Site → Flow → List ℕ
+links s f = route (s .parents) (f .entry)
+
+-- 01: a flow is admitted where there are 576 counters, the site is one that check 14 lets pass, the flow's operands are within their limits, it enters at
+-- one of the nodes, its number is not live, on each link of its route the live widths and its own are together within the capacity, and the
+-- judged gaps of the route are within its deadline.
+pub record Admissible (s : Site) (counters : List ℕ) (f : Flow) : Type 0 where
+  pub counted : length counters ≡ 576
+  pub sound : Sound s
+  pub good : FlowGood (s .links) 0 f
+  pub free : live s (f .number) ≡ false
+  pub room : RoomAlong s (f .rate) (links s f)
+  pub time : along (gapsJudged s) (links s f) ≤ f .deadline
+
+-- 01: a flow is released where there are 576 counters, the site is one that check 14 lets pass, and the number is one of the 64 and live.
+pub record Releasable (s : Site) (counters : List ℕ) (n : ℕ) : Type 0 where
+  pub counted : length counters ≡ 576
+  pub sound : Sound s
+  pub few : n ≤ 63
+  pub living : live s n ≡ true
+
+-- 01, the order of a call that is lent counters: 1, 14, then the checks of its own.
+abbrev pub callChecks : Site → List ℕ → Checks → Checks
+callChecks s counters others =
+    check 1 (λ p. (length counters ≡ 576 → ⊥) × (p ≡ 0))
+    (check 14 (λ p. (Sound s → ⊥) × (p ≡ 0))
+    others)
+
+-- 01, admission: 5, 6, 15, 17, 18, each with its place.
+abbrev pub admissionChecks : Site → List ℕ → Flow → Checks
+admissionChecks s counters f =
+    callChecks s counters
+    (check 5 (λ p. (FlowWithin f → ⊥) × (p ≡ 0))
+    (check 6 (λ p. ((f .entry ≡ 0) ⊎ (s .links < f .entry)) × (p ≡ 0))
+    (check 15 (λ p. (live s (f .number) ≡ true) × (p ≡ f .number))
+    (check 17 (λ p. UnfitAt s (f .rate) (links s f) p)
+    (check 18 (λ p. (f .deadline < along (gapsJudged s) (links s f)) × (p ≡ f .number))
+    none)))))
+
+-- 01, release: 5, 16.
+abbrev pub releaseChecks : Site → List ℕ → ℕ → Checks
+releaseChecks s counters n =
+    callChecks s counters
+    (check 5 (λ p. (63 < n) × (p ≡ 0))
+    (check 16 (λ p. (live s n ≡ false) × (p ≡ n))
+    none))

@@ -1,0 +1,101 @@
+// Flows that come to a live site and go (01: the desk).
+use schedule::Judged;
+use schedule::Verdict;
+use site::Flow;
+use site::Site;
+ghost use mathlib.Core.Path.{_≡_};
+ghost use Prim.Native.Nat.{_+_, _*_, _≤_};
+ghost use lib.ListN.{length};
+ghost use Rattle.pinwheel.specs.Outcome.{accepted, settled};
+ghost use Rattle.schedule.specs.Judge.{ruling};
+ghost use Rattle.counters.specs.Blocks.{withCells, zeros};
+ghost use Rattle.admission.specs.Calls.{admitRuling, admitOf, releaseRuling, releaseOf};
+
+// The checks of an admission in their order: 1 and 14, 5 and 6, 15, 17, 18.
+fn judge_admission(site: Site, counters: &[u32], flow: Flow) -> Verdict
+    ensures { λ r. ⌜ ruling r ≡ admitRuling site (now (counters .entry)) flow ⌝ }
+{
+    let call = limits::call_fault(site, counters);
+    if call != 0 {
+        return Verdict::Refused(call, 0);
+    }
+    let limit = limits::flow_limits(site.links, 0, flow);
+    let number = flow.number;
+    if limit != 0 {
+        return Verdict::Refused(limit, 0);
+    }
+    if site::is_live(site, number) {
+        return Verdict::Refused(15, number as usize);
+    }
+    let unfit = site::first_unfit(site, flow);
+    let gaps = site::gaps_along(site, flow.entry);
+    if unfit != 0 {
+        return Verdict::Refused(17, unfit as usize);
+    }
+    if (flow.deadline as u32) < gaps {
+        return Verdict::Refused(18, number as usize);
+    }
+    Verdict::Accepted
+}
+
+// The checks of a release in their order: 1 and 14, 5, 16.
+fn judge_release(site: Site, counters: &[u32], number: u8) -> Verdict
+    ensures { λ r. ⌜ ruling r ≡ releaseRuling site (now (counters .entry)) number ⌝ }
+{
+    let call = limits::call_fault(site, counters);
+    if call != 0 {
+        return Verdict::Refused(call, 0);
+    }
+    if 63 < number {
+        return Verdict::Refused(5, 0);
+    }
+    if !site::is_live(site, number) {
+        return Verdict::Refused(16, number as usize);
+    }
+    Verdict::Accepted
+}
+
+// An accepted call sets the nine cells of its flow number to 0. They are lent on from where they stand in the counters.
+fn clear_cells(verdict: Verdict, counters: &mut [u32], number: u8)
+    requires { ⌜ (ruling verdict ≡ accepted tt → 9 * number + 9 ≤ length (now counters)) ⌝ }
+    ensures { λ _. ⌜ now (counters .exit) ≡ settled (ruling verdict) (withCells number (zeros 9) (now (counters .entry))) (now (counters .entry)) ⌝ }
+{
+    match verdict {
+        Verdict::Accepted => {
+            let at = 9 * number as usize;
+            let end = at + 9;
+            counters::clear(&mut counters[at..end]);
+        }
+        Verdict::Refused(_number, _place) => {}
+    }
+}
+
+// Takes a flow in.
+pub fn admit(site: Site, counters: &mut [u32], flow: Flow) -> Judged
+    ensures { λ r. ⌜ (ruling (r .verdict), r .site, now (counters .exit)) ≡ admitOf site (now (counters .entry)) flow ⌝ }
+{
+    let verdict = judge_admission(site, counters, flow);
+    clear_cells(verdict, counters, flow.number);
+    match verdict {
+        Verdict::Accepted => Judged {
+            verdict,
+            site: site::with_flow(site, flow),
+        },
+        Verdict::Refused(_number, _place) => Judged { verdict, site },
+    }
+}
+
+// Lets a flow go.
+pub fn release(site: Site, counters: &mut [u32], number: u8) -> Judged
+    ensures { λ r. ⌜ (ruling (r .verdict), r .site, now (counters .exit)) ≡ releaseOf site (now (counters .entry)) number ⌝ }
+{
+    let verdict = judge_release(site, counters, number);
+    clear_cells(verdict, counters, number);
+    match verdict {
+        Verdict::Accepted => Judged {
+            verdict,
+            site: site::without_flow(site, number),
+        },
+        Verdict::Refused(_number, _place) => Judged { verdict, site },
+    }
+}

@@ -1,0 +1,68 @@
+-- What is proved of blocks, for any size and any kind of element: a block that is put in is the one taken out, the others stay as they are, and so does
+-- the length. And how a part that was lent on comes back.
+pub mod Clearing
+use Prim.Native.Nat.{ℕ, suc, _+_, _-_, _*_, _≤_, _<_}
+use mathlib.Core.Path.{_≡_, refl, sym, _∙_, ap}
+use mathlib.Core.List.{List, _++_, append-assoc}
+use mathlib.Core.Logic.{_⊎_, inl, inr}
+use lib.ListN.{length, take, drop, replicate, length-append, length-take, length-drop, length-replicate, take-append-drop}
+use lib.Seq.{length-take-le, drop-append-le, take-append-le, drop-append-add, drop-drop, take-at, drop-at}
+use native.Mathlib.Nat.{mul-suc, mul-le-mul-left}
+use native.Mathlib.Omega.{arith}
+use Rattle.pinwheel.proofs.Laws.Search.{lt-or-le}
+use Rattle.counters.specs.Blocks.{block, withBlock, zeros}
+
+-- A block ends where the next begins, at the latest.
+apart : (k n f : ℕ) → n < f → k * n + k ≤ k * f
+apart k n f l = rw mul-suc at (mul-le-mul-left {m = suc n} {n = f} k l)
+
+module _ {A : Type 0} where
+  -- Entries that stand in the first of two lists.
+  front : (a k : ℕ) (xs ys : List A) → a + k ≤ length xs → take k (drop a (xs ++ ys)) ≡ take k (drop a xs)
+  front a k xs ys l = rw (drop-append-le a xs ys (omega arith)) (take-append-le k (drop a xs) ys (simp length-drop (omega arith)))
+
+  module _ (k n : ℕ) (xs : List A) (fits : k * n + k ≤ length xs) where
+    pub length-block : length (block k n xs) ≡ k
+    unfolding block
+    length-block = simp (length-take, length-drop) (omega arith)
+
+    before : length (take (k * n) xs) ≡ k * n
+    before = length-take-le (k * n) xs (omega arith)
+
+    module _ (ys : List A) (long : length ys ≡ k) where
+      pub length-with : length (withBlock k n ys xs) ≡ length xs
+      unfolding withBlock
+      length-with = simp (length-append, before, length-drop, long) (omega arith)
+
+      pub block-same : block k n (withBlock k n ys xs) ≡ ys
+      unfolding block withBlock
+      block-same = rw (drop-at (take (k * n) xs) (ys ++ drop k (drop (k * n) xs)) (k * n) before) (take-at ys _ k long)
+
+      pub block-other : (f : ℕ) → (f ≡ n → ⊥) → block k f (withBlock k n ys xs) ≡ block k f xs
+      unfolding block withBlock
+      block-other f d = go (lt-or-le f n)
+        where
+          go : (f < n) ⊎ (n ≤ f) → take k (drop (k * f) (take (k * n) xs ++ (ys ++ drop k (drop (k * n) xs)))) ≡ take k (drop (k * f) xs)
+          go (inl l) =
+              let w = apart k f n l in
+              front (k * f) k (take (k * n) xs) _ (omega (arith, before))
+              ∙ sym (front (k * f) k (take (k * n) xs) (drop (k * n) xs) (omega (arith, before))) ∙ rw (take-append-drop (k * n) xs)
+          go (inr l) =
+              let w = apart k n f (omega arith) in
+              let here : length (take (k * n) xs ++ ys) ≡ k * n + k = rw (length-append, before, long) in
+              let at : k * f ≡ length (take (k * n) xs ++ ys) + (k * f - (k * n + k)) = rw here (omega arith) in
+              let rest : k * n + (k + (k * f - (k * n + k))) ≡ k * f = omega arith in
+              ap (λ (r : List A). take k r)
+              (rw (← append-assoc (take (k * n) xs) ys (drop k (drop (k * n) xs)))
+              (ap (λ (i : ℕ). drop i ((take (k * n) xs ++ ys) ++ drop k (drop (k * n) xs))) at
+              ∙ drop-append-add (take (k * n) xs ++ ys) _ _
+              ∙ drop-drop _ k (drop (k * n) xs) ∙ drop-drop _ (k * n) xs ∙ ap (λ (i : ℕ). drop i xs) rest))
+
+  -- A part lent from k * n to k * n + k comes back as block n.
+  pub block-back : (k n : ℕ) (ys xs : List A) → take (k * n) xs ++ (ys ++ drop (k * n + k - k * n) (drop (k * n) xs)) ≡ withBlock k n ys xs
+  unfolding withBlock
+  block-back k n ys xs = let size : k * n + k - k * n ≡ k = omega arith in rw size
+
+pub length-zeros : (n : ℕ) → length (zeros n) ≡ n
+unfolding zeros
+length-zeros n = length-replicate n 0

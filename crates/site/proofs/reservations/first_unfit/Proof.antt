@@ -1,0 +1,135 @@
+-- Right because the links passed have room, so that the first one without it from the node on is the first of the route; the node's number falls.
+use borrow.Author.Needs.{needs}
+use Prim.Native.Nat.{_+_, _-_, _*_, _≤_, _<_}
+use mathlib.Core.Path.{_≡_, refl, _∙_}
+use lib.ListN.{length, getD}
+use mir.Syntax.{w8, w16}
+use mir.Val.{Fits}
+use native.Mathlib.Omega.{arith}
+use Rattle.site.specs.Tree.{route}
+use Rattle.site.specs.Reservations.{gapsJudged, load, firstUnfit}
+use Rattle.site.proofs.Laws.Tree.{up-within}
+use Rattle.site.proofs.Laws.Reservations.{unfit-end, unfit-here, unfit-next, load-le, width-le}
+use Rattle.site.proofs.reservations.first_unfit.Statement.{statement}
+use Rattle.site.proofs.reservations.first_unfit.Tie as tie
+
+abbrev Inv-loop : tie.InvT-loop
+Inv-loop flow site gaps parents loads node₀ node = (node ≤ flow .entry) × (firstUnfit site (flow .rate) (route (site .parents) node) ≡ firstUnfit site (flow .rate) (route (site .parents) (flow .entry)))
+
+abbrev μ-loop : tie.MeasureT-loop
+μ-loop flow site gaps parents loads node₀ node = node
+
+width : (c : tie.After-value-of Inv-loop μ-loop) → c .before .before .before .before .before .before .before .before .before .before .args .flow .rate * c .value-of .result ≤ 16711425
+width c = let f : Fits w8 (c .before .before .before .before .before .before .before .before .before .before .args .flow .rate) = search needs in width-le _ _ (omega (arith, f .fits)) (omega arith)
+
+within : (c : tie.After-value-of Inv-loop μ-loop) → c .before .before .before .before .before .before .loop .node - 1 < 63
+within c =
+    let long : length (c .before .before .before .before .before .before .before .before .before .before .args .t1 .parents) ≡ 63 = search needs in
+    omega (arith, up-within (c .before .before .before .before .before .before .before .before .before .before .args .t1 .parents) (c .before .before .before .before .before .before .loop .node) (omega (arith, c .before .before .before .before .parent-of .ensures)))
+
+loaded : (c : tie.After-value-of Inv-loop μ-loop)
+    → getD (c .before .before .before .before .before .before .before .loads-of .result) (c .before .before .before .before .before .before .loop .node - 1) 0 ≡ load (c .before .before .before .before .before .before .before .before .before .before .args .t1) (c .before .before .before .before .before .before .loop .node - 1 + 1)
+loaded c = c .before .before .before .before .before .before .before .loads-of .ensures .1 _ (within c)
+
+heavy : (c : tie.After-value-of Inv-loop μ-loop) → getD (c .before .before .before .before .before .before .before .loads-of .result) (c .before .before .before .before .before .before .loop .node - 1) 0 ≤ 1069531200
+unfolding gapsJudged
+heavy c =
+    let site = c .before .before .before .before .before .before .before .before .before .before .args .t1 in
+    rw (loaded c) (load-le _ _ (λ i. let f : Fits w8 (getD (site .rates) i 0) = search needs in omega (arith, f .fits))
+    (λ i. let f : Fits w16 (getD (site .gaps) i 0) = search needs in omega (arith, f .fits)))
+
+gaps-judged-requires : tie.Need-gaps-judged-requires Inv-loop μ-loop
+gaps-judged-requires c κs = search needs
+
+loads-of-requires : tie.Need-loads-of-requires Inv-loop μ-loop
+loads-of-requires c κs = search needs
+
+loop-holds : tie.Need-loop-holds Inv-loop μ-loop
+loop-holds c = (omega arith, refl)
+
+slice-aggregate-parent-of : tie.Need-slice-aggregate-parent-of Inv-loop μ-loop
+slice-aggregate-parent-of c = search needs
+
+parent-of-requires : tie.Need-parent-of-requires Inv-loop μ-loop
+parent-of-requires c κs = search needs
+
+returns : tie.Need-returns Inv-loop μ-loop
+returns c = unfit-end _ _ _ _ (c .before .parent-of .ensures) (c .if1 .taken) ∙ c .before .before .before .loop .inv .1
+
+sub-i : tie.Need-sub-i Inv-loop μ-loop
+sub-i c = search needs
+
+cast-i : tie.Need-cast-i Inv-loop μ-loop
+cast-i c = omega (arith, c .before .before .before .loop .inv .0)
+
+cast-width : tie.Need-cast-width Inv-loop μ-loop
+cast-width c = search needs
+
+slice-aggregate-value-of : tie.Need-slice-aggregate-value-of Inv-loop μ-loop
+slice-aggregate-value-of c = search needs
+
+value-of-requires : tie.Need-value-of-requires Inv-loop μ-loop
+value-of-requires c κs = search needs
+
+cast-width-2 : tie.Need-cast-width-2 Inv-loop μ-loop
+cast-width-2 c = search needs
+
+mul-width : tie.Need-mul-width Inv-loop μ-loop
+mul-width c = omega (arith, width c)
+
+mul-if2 : tie.Need-mul-if2 Inv-loop μ-loop
+mul-if2 c = omega (arith, within c)
+
+element-copy-out-if2 : tie.Need-element-copy-out-if2 Inv-loop μ-loop
+element-copy-out-if2 c = within c
+
+cast-if2 : tie.Need-cast-if2 Inv-loop μ-loop
+cast-if2 c = let f : Fits w16 (getD (c .before .before .before .before .before .before .before .before .before .before .before .args .t1 .capacities) (c .before .before .before .before .before .before .before .loop .node - 1) 0) = search needs in omega (arith, f .fits)
+
+mul-if2-2 : tie.Need-mul-if2-2 Inv-loop μ-loop
+mul-if2-2 c = omega (arith, within (c .before))
+
+array-read-if2 : tie.Need-array-read-if2 Inv-loop μ-loop
+array-read-if2 c = within (c .before)
+
+add-if2 : tie.Need-add-if2 Inv-loop μ-loop
+add-if2 c = omega (arith, width (c .before), heavy (c .before))
+
+returns-2 : tie.Need-returns-2 Inv-loop μ-loop
+returns-2 c = unfit-here _ _ _ _ (c .before .before .before .before .before .before .parent-of .ensures) (omega arith) _ _ _ (loaded (c .before .before)) (c .before .before .value-of .ensures) (c .before .before .before .before .before .before .before .before .before .before .before .gaps-judged .ensures) (c .if2 .taken) ∙ c .before .before .before .before .before .before .before .before .loop .inv .1
+
+loop-less : tie.Need-loop-less Inv-loop μ-loop
+loop-less c = search needs
+
+loop-again : tie.Need-loop-again Inv-loop μ-loop
+loop-again c =
+    (omega (arith, c .before .before .before .before .before .before .before .before .loop .inv .0), unfit-next _ _ _ _ (c .before .before .before .before .before .before .parent-of .ensures) (omega arith) _ _ _ (loaded (c .before .before)) (c .before .before .value-of .ensures) (c .before .before .before .before .before .before .before .before .before .before .before .gaps-judged .ensures) (c .if2 .left) ∙ c .before .before .before .before .before .before .before .before .loop .inv .1)
+
+pub first-unfit-spec : {M : Type 1} → statement M
+first-unfit-spec =
+    tie.close
+    (tie.spec
+    Inv-loop
+    μ-loop
+    gaps-judged-requires
+    loads-of-requires
+    loop-holds
+    slice-aggregate-parent-of
+    parent-of-requires
+    returns
+    sub-i
+    cast-i
+    cast-width
+    slice-aggregate-value-of
+    value-of-requires
+    cast-width-2
+    mul-width
+    mul-if2
+    element-copy-out-if2
+    cast-if2
+    mul-if2-2
+    array-read-if2
+    add-if2
+    returns-2
+    loop-less
+    loop-again)
