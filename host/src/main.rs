@@ -1,6 +1,8 @@
 //! A second implementation of document 01, for comparison with the programs under crates/.
 
 mod bytes;
+mod call_lines;
+mod calls;
 mod compare;
 mod damage;
 mod expected;
