@@ -1,12 +1,13 @@
 //! What test_calls prints for each line of its input.
 
 use crate::calls::{admission, release, sender, COUNTERS};
-use crate::programs::{alter, decimal, numbers, refused, site_of_hex, OF_16_BITS, OF_8_BITS};
+use crate::programs::{
+    alter, decimal, numbers, refused, site_of_hex, OF_16_BITS, OF_32_BITS, OF_8_BITS,
+};
 use crate::rules::{Flow, Refusal, Site};
 
 /// One more than has to be lent, so that a list too long by one can be lent too.
 const MOST_COUNTERS: u64 = COUNTERS as u64 + 1;
-const OF_32_BITS: u64 = 4_294_967_295;
 
 /// What lasts from line to line.
 pub struct Desk {

@@ -9,6 +9,7 @@ mod expected;
 mod lines;
 mod programs;
 mod random;
+mod random_calls;
 mod random_gaps;
 mod random_plans;
 mod random_sites;

@@ -18,6 +18,7 @@ pub const PROGRAMS: &[&str] = &[
 
 pub const OF_8_BITS: u64 = 255;
 pub const OF_16_BITS: u64 = 65_535;
+pub const OF_32_BITS: u64 = 4_294_967_295;
 
 /// A schedule of 63 links has 63 times 6 bytes and END.
 const LONGEST_SCHEDULE: usize = 379;

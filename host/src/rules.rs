@@ -250,14 +250,19 @@ impl Site {
         route(&self.parents, self.entries[flow] as usize)
     }
 
-    fn sum_on_route(&self, flow: usize, of_links: &[u64]) -> u64 {
-        let links = self.route_of_flow(flow);
+    fn sum_on_route(&self, node: usize, of_links: &[u64]) -> u64 {
+        let links = route(&self.parents, node);
         links.iter().map(|link| of_links[link - 1]).sum()
+    }
+
+    /// The sum of the wanted gaps from a node up to the root.
+    pub fn wanted_gaps(&self, node: usize) -> u64 {
+        self.sum_on_route(node, &self.gaps)
     }
 
     /// G of 01, "The list of demand 3".
     pub fn bound(&self, flow: usize) -> u64 {
-        self.sum_on_route(flow, &self.periods)
+        self.sum_on_route(self.entries[flow] as usize, &self.periods)
     }
 
     /// What the slot rule says under a parent with children.
@@ -292,7 +297,7 @@ impl Site {
     }
 
     /// 01, "Reservations": the sum of the widths on a link.
-    fn reserved(&self, link: usize) -> u64 {
+    pub fn reserved(&self, link: usize) -> u64 {
         self.live_flows()
             .into_iter()
             .filter(|&flow| self.route_of_flow(flow).contains(&link))
@@ -305,7 +310,7 @@ impl Site {
     }
 
     pub fn is_late(&self, flow: usize) -> bool {
-        self.sum_on_route(flow, &self.gaps) > self.deadlines[flow]
+        self.wanted_gaps(self.entries[flow] as usize) > self.deadlines[flow]
     }
 
     fn check_widths(&self) -> Result<(), Refusal> {
