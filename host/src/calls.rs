@@ -4,7 +4,7 @@ use crate::bytes::check_14;
 use crate::rules::{refuse, Flow, Refusal, Site, FLOW_NUMBERS};
 
 /// 01, "One slot": eight queues and the delivered count.
-const CELLS: usize = 9;
+pub const CELLS: usize = 9;
 pub const COUNTERS: usize = CELLS * FLOW_NUMBERS;
 
 /// 01: 1 comes before 14.

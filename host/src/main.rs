@@ -6,7 +6,9 @@ mod calls;
 mod compare;
 mod damage;
 mod expected;
+mod fixed;
 mod lines;
+mod measure;
 mod programs;
 mod random;
 mod random_calls;
@@ -18,7 +20,8 @@ mod rules;
 use std::path::Path;
 use std::process::ExitCode;
 
-const USAGE: &str = "host expected [--write]\nhost random N SEED [--bin DIR]";
+const USAGE: &str =
+    "host expected [--write]\nhost random N SEED [--bin DIR]\nhost measure PLAN_FILE";
 
 fn random(count: &str, seed: &str, folder: &str) -> Option<u8> {
     let (count, seed) = (count.parse().ok()?, seed.parse().ok()?);
@@ -33,6 +36,7 @@ fn main() -> ExitCode {
         ["expected", "--write"] => Some(expected::check_all(true)),
         ["random", count, seed] => random(count, seed, "target/bin"),
         ["random", count, seed, "--bin", folder] => random(count, seed, folder),
+        ["measure", path] => Some(measure::measure(path)),
         _ => None,
     };
     let status = status.unwrap_or_else(|| {
