@@ -44,6 +44,7 @@ impl Call {
 }
 
 /// Lines for test_calls: a plan, and calls on its site, a few of them while it is altered.
+/// Between the calls the counters are filled anew, so that it shows which of them a call sets to 0.
 pub fn call_lines(random: &mut Random) -> String {
     let (plan, mut site) = site_to_alter(random);
     let mut lines = format!("P{}\nC\n", hex(&plan));
@@ -51,6 +52,9 @@ pub fn call_lines(random: &mut Random) -> String {
     for _ in 0..random.between(3, 12) {
         if random.chance(12) {
             lines += &altered_call(random, &mut site);
+        }
+        if random.chance(30) {
+            lines += random.pick(&["C\n", "C 4294967295\n", "C 1\n"]);
         }
         let call = random_call(random, &site);
         lines += &call.line();
