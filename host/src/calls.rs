@@ -31,16 +31,16 @@ pub fn admission(site: &mut Site, counters: &mut [u32], flow: Flow) -> Result<()
     if site.is_live(flow.number) {
         return refuse(15, flow.number);
     }
-    let mut wider = site.clone();
-    wider.add_flow(flow);
-    let going_up = wider.route_of_flow(flow.number);
-    if let Some(&link) = going_up.iter().find(|&&link| wider.is_overfull(link)) {
+    let mut after = site.clone();
+    after.add_flow(flow);
+    let going_up = after.route_of_flow(flow.number);
+    if let Some(&link) = going_up.iter().find(|&&link| after.is_overfull(link)) {
         return refuse(17, link);
     }
-    if wider.is_late(flow.number) {
+    if after.is_late(flow.number) {
         return refuse(18, flow.number);
     }
-    *site = wider;
+    *site = after;
     clear_cells(counters, flow.number);
     Ok(())
 }
