@@ -1,8 +1,6 @@
 //! Plan bytes read and written, the schedule written, and check 14.
 
-use crate::rules::{
-    refuse, Refusal, Site, CAPACITIES, DEADLINES, FLOW_NUMBERS, GAPS, MOST_DEPTH, MOST_LINKS, RATES,
-};
+use crate::rules::{refuse, Flow, Refusal, Site, CAPACITIES, GAPS, MOST_DEPTH, MOST_LINKS};
 
 pub const NODE: u8 = 0x01;
 pub const FLOW: u8 = 0x02;
@@ -57,23 +55,22 @@ fn add_node(site: &mut Site, operands: &[u8], at: usize) -> Result<(), Refusal> 
     Ok(())
 }
 
-/// Checks 5 and 6. The root is no entry node (01, below the table of states).
+/// Checks 5 and 6.
 fn add_flow(site: &mut Site, operands: &[u8], at: usize) -> Result<(), Refusal> {
-    let number = usize::from(operands[0]);
-    let entry = u64::from(operands[1]);
-    let rate = u64::from(operands[2]);
-    let deadline = of_16_bits(&operands[3..5]);
-    if number >= FLOW_NUMBERS || !RATES.contains(&rate) || !DEADLINES.contains(&deadline) {
+    let flow = Flow {
+        number: usize::from(operands[0]),
+        entry: usize::from(operands[1]),
+        rate: u64::from(operands[2]),
+        deadline: of_16_bits(&operands[3..5]),
+    };
+    if !flow.within_limits() {
         return refuse(5, at);
     }
-    let above_the_last = site.live_flows().iter().all(|&flow| flow < number);
-    if entry == 0 || entry > site.links || !above_the_last {
+    let above_the_last = site.live_flows().iter().all(|&last| last < flow.number);
+    if !site.has_entry_node(flow.entry) || !above_the_last {
         return refuse(6, at);
     }
-    site.states[number] = 1;
-    site.entries[number] = entry;
-    site.rates[number] = rate;
-    site.deadlines[number] = deadline;
+    site.add_flow(flow);
     Ok(())
 }
 
@@ -154,11 +151,16 @@ pub fn passes_check_14(site: &Site) -> bool {
     *site == Site::empty() || read_plan(&plan_bytes(site)).as_ref() == Ok(site)
 }
 
-/// 01: 14, then 9, and the slice last.
-fn fill(slice: &mut [u8], site: &Site, form: fn(&Site) -> Vec<u8>) -> Result<usize, Refusal> {
+pub fn check_14(site: &Site) -> Result<(), Refusal> {
     if !passes_check_14(site) {
         return refuse(14, 0);
     }
+    Ok(())
+}
+
+/// 01: 14, then 9, and the slice last.
+fn fill(slice: &mut [u8], site: &Site, form: fn(&Site) -> Vec<u8>) -> Result<usize, Refusal> {
+    check_14(site)?;
     if site.links == 0 {
         return refuse(9, 0);
     }
@@ -180,19 +182,20 @@ pub fn write_schedule(site: &Site, slice: &mut [u8]) -> Result<usize, Refusal> {
     fill(slice, site, schedule_bytes)
 }
 
+/// Plan P of 01, with this capacity on link 3 and this deadline.
+#[cfg(test)]
+pub fn plan_p(capacity: u64, deadline: u64) -> Vec<u8> {
+    let mut bytes = node_command(0, 20, 4);
+    bytes.extend(node_command(0, 20, 6));
+    bytes.extend(node_command(1, capacity, 3));
+    bytes.extend(flow_command(0, 3, 3, deadline));
+    bytes.push(END);
+    bytes
+}
+
 #[cfg(test)]
 mod tests {
     use super::*;
-
-    /// Plan P of 01, with another capacity on link 3 and another deadline.
-    fn plan_p(capacity: u64, deadline: u64) -> Vec<u8> {
-        let mut bytes = node_command(0, 20, 4);
-        bytes.extend(node_command(0, 20, 6));
-        bytes.extend(node_command(1, capacity, 3));
-        bytes.extend(flow_command(0, 3, 3, deadline));
-        bytes.push(END);
-        bytes
-    }
 
     fn refusal(bytes: &[u8]) -> (u64, usize) {
         let refusal = read_plan(bytes).unwrap_err();

@@ -4,6 +4,7 @@ use crate::damage::random_plan;
 use crate::lines::first_difference;
 use crate::programs::{hex, output, slotplan};
 use crate::random::Random;
+use crate::random_calls::call_lines;
 use crate::random_gaps::deals_line;
 use crate::random_sites::altered_lines;
 use std::io::Write;
@@ -31,6 +32,18 @@ const PLAN_OUTCOMES: [&str; 13] = [
 ];
 const SITE_OUTCOMES: [&str; 2] = ["passes, ", "does not pass, "];
 const GAP_OUTCOMES: [&str; 4] = ["base ", "refused 1 ", "refused 5 ", "refused 11 "];
+const CALL_OUTCOMES: [&str; 10] = [
+    "accepted ",
+    "refused 1 ",
+    "refused 14 ",
+    "refused 5 ",
+    "refused 6 ",
+    "refused 15 ",
+    "refused 16 ",
+    "refused 17 ",
+    "refused 18 ",
+    "sender ",
+];
 
 /// Input of one or more lines, and what the program has to print for it.
 struct Case {
@@ -165,6 +178,7 @@ struct Comparison {
     vectors: Feed,
     altered: Feed,
     deals: Feed,
+    calls: Feed,
 }
 
 impl Comparison {
@@ -174,12 +188,16 @@ impl Comparison {
             vectors: Feed::new("test_vectors", "plans", folder, &PLAN_OUTCOMES),
             altered: Feed::new("test_altered", "altered sites", folder, &SITE_OUTCOMES),
             deals: Feed::new("test_deals", "gap lists", folder, &GAP_OUTCOMES),
+            calls: Feed::new("test_calls", "calls", folder, &CALL_OUTCOMES),
         }
     }
 
+    fn feeds(&self) -> [&Feed; 4] {
+        [&self.vectors, &self.altered, &self.deals, &self.calls]
+    }
+
     fn missing(&self) -> Vec<&Path> {
-        let feeds = [&self.vectors, &self.altered, &self.deals];
-        let programs = feeds.map(|feed| feed.program.as_path());
+        let programs = self.feeds().map(|feed| feed.program.as_path());
         let all = std::iter::once(self.slotplan.as_path()).chain(programs);
         all.filter(|program| !program.is_file()).collect()
     }
@@ -191,14 +209,16 @@ impl Comparison {
             compare_slotplan(&self.slotplan, &plan)?;
             self.altered.add(altered_lines(random))?;
             self.deals.add(deals_line(random))?;
+            self.calls.add(call_lines(random))?;
         }
         self.vectors.run()?;
         self.altered.run()?;
-        self.deals.run()
+        self.deals.run()?;
+        self.calls.run()
     }
 
     fn print_counts(&self) {
-        for feed in [&self.vectors, &self.altered, &self.deals] {
+        for feed in self.feeds() {
             feed.print_counts();
         }
     }
@@ -243,6 +263,19 @@ mod tests {
         }
         for (outcome, count) in vectors.counts {
             assert!(count >= 3, "{outcome}{count}");
+        }
+    }
+
+    #[test]
+    fn random_calls_meet_every_outcome() {
+        let mut random = Random::from_seed(5);
+        let mut calls = Feed::new("test_calls", "", Path::new(""), &CALL_OUTCOMES);
+        for _ in 0..300 {
+            let expected = output(calls.name, call_lines(&mut random).as_bytes()).unwrap();
+            expected.lines().for_each(|line| calls.count(line));
+        }
+        for (outcome, count) in calls.counts {
+            assert!(count >= 30, "{outcome}{count}");
         }
     }
 

@@ -1,12 +1,17 @@
 //! A second implementation of document 01, for comparison with the programs under crates/.
 
 mod bytes;
+mod call_lines;
+mod calls;
 mod compare;
 mod damage;
 mod expected;
+mod fixed;
 mod lines;
+mod measure;
 mod programs;
 mod random;
+mod random_calls;
 mod random_gaps;
 mod random_plans;
 mod random_sites;
@@ -15,7 +20,8 @@ mod rules;
 use std::path::Path;
 use std::process::ExitCode;
 
-const USAGE: &str = "host expected [--write]\nhost random N SEED [--bin DIR]";
+const USAGE: &str =
+    "host expected [--write]\nhost random N SEED [--bin DIR]\nhost measure PLAN_FILE";
 
 fn random(count: &str, seed: &str, folder: &str) -> Option<u8> {
     let (count, seed) = (count.parse().ok()?, seed.parse().ok()?);
@@ -30,6 +36,7 @@ fn main() -> ExitCode {
         ["expected", "--write"] => Some(expected::check_all(true)),
         ["random", count, seed] => random(count, seed, "target/bin"),
         ["random", count, seed, "--bin", folder] => random(count, seed, folder),
+        ["measure", path] => Some(measure::measure(path)),
         _ => None,
     };
     let status = status.unwrap_or_else(|| {

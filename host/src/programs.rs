@@ -1,6 +1,7 @@
 //! What each program prints for an input.
 
 use crate::bytes::{passes_check_14, read_plan, write_plan, write_schedule};
+use crate::call_lines::Desk;
 use crate::rules::{slot_rule, Refusal, Site};
 
 /// The programs with a stored input and output, in crates of these names.
@@ -12,7 +13,12 @@ pub const PROGRAMS: &[&str] = &[
     "test_vectors",
     "test_altered",
     "test_deals",
+    "test_calls",
 ];
+
+pub const OF_8_BITS: u64 = 255;
+pub const OF_16_BITS: u64 = 65_535;
+pub const OF_32_BITS: u64 = 4_294_967_295;
 
 /// A schedule of 63 links has 63 times 6 bytes and END.
 const LONGEST_SCHEDULE: usize = 379;
@@ -27,6 +33,10 @@ pub fn output(program: &str, input: &[u8]) -> Result<String, String> {
             each_line(input, |line| altered_line(&mut site, line))
         }
         "test_deals" => each_line(input, deals_line),
+        "test_calls" => {
+            let mut desk = Desk::new();
+            each_line(input, |line| desk.line(line))
+        }
         _ => Err(format!("no program {program}")),
     }
 }
@@ -74,7 +84,7 @@ fn links_and_flows(site: &Site) -> String {
     output + &format!("accepted links {links} flows {flows}\n")
 }
 
-fn refused(refusal: Refusal) -> String {
+pub fn refused(refusal: Refusal) -> String {
     format!("refused {} {}", refusal.number, refusal.place)
 }
 
@@ -124,7 +134,7 @@ fn vectors_line(line: &str) -> Result<String, String> {
     ))
 }
 
-fn numbers(line: &str) -> Result<Vec<u64>, String> {
+pub fn numbers(line: &str) -> Result<Vec<u64>, String> {
     let words = line.split(' ').filter(|word| !word.is_empty());
     words
         .map(|word| word.parse().map_err(|_| format!("no number: {word}")))
@@ -133,8 +143,6 @@ fn numbers(line: &str) -> Result<Vec<u64>, String> {
 
 /// An entry of the site by the numbers that test_altered uses, with the largest value of its width.
 pub fn entry(site: &mut Site, field: u64, index: u64) -> Option<(&mut u64, u64)> {
-    const OF_8_BITS: u64 = 255;
-    const OF_16_BITS: u64 = 65_535;
     let (list, largest) = match field {
         0 => return Some((&mut site.links, OF_8_BITS)),
         1 => (&mut site.parents, OF_8_BITS),
@@ -160,18 +168,28 @@ fn set_entry(site: &mut Site, field: u64, index: u64, value: u64) {
     }
 }
 
+/// A triple that is not complete is passed over.
+pub fn alter(site: &mut Site, numbers: &[u64]) {
+    for triple in numbers.chunks_exact(3) {
+        set_entry(site, triple[0], triple[1], triple[2]);
+    }
+}
+
+/// 01: a refused reading gives the empty site.
+pub fn site_of_hex(plan: &str) -> Result<Site, String> {
+    Ok(read_plan(&bytes_of_hex(plan)?).unwrap_or(Site::empty()))
+}
+
 fn altered_line(site: &mut Site, line: &str) -> Result<String, String> {
     if let Some(plan) = line.strip_prefix('P') {
-        *site = read_plan(&bytes_of_hex(plan)?).unwrap_or(Site::empty());
+        *site = site_of_hex(plan)?;
         return Ok(String::new());
     }
     let numbers = numbers(line)?;
     let room = *numbers.first().ok_or("no room")? as usize;
     let room = at_most(room, 64, "bytes of room")?;
     let mut altered = site.clone();
-    for triple in numbers[1..].chunks_exact(3) {
-        set_entry(&mut altered, triple[0], triple[1], triple[2]);
-    }
+    alter(&mut altered, &numbers[1..]);
     Ok(altered_answers(&altered, room))
 }
 
@@ -189,7 +207,7 @@ fn altered_answers(site: &Site, room: usize) -> String {
     format!("{passes}, plan {plan}:{after_plan}, schedule {schedule}:{after_schedule}\n")
 }
 
-fn decimal(list: &[u64]) -> String {
+pub fn decimal(list: &[u64]) -> String {
     list.iter().map(|number| format!(" {number}")).collect()
 }
 
@@ -272,6 +290,51 @@ mod tests {
             refused 11 0 offsets 500 501 periods 700 701\n\
             refused 5 0 offsets periods\n";
         assert_eq!(printed("test_deals", input), expected);
+    }
+
+    #[test]
+    fn calls_prints_what_each_call_changed() {
+        let input = format!("P {PLAN_P}\nC\nA 576 5 2 3 6\nA 575 6 2 1 6\nX 4 1 2\nR 576 0\nL 0 1\nX 4 1 1\nC 9\nR 576 5\nL 0 1\n");
+        let expected = "accepted site 6 5 1 7 5 2 8 5 3 9 5 6 \
+            counters 45 0 46 0 47 0 48 0 49 0 50 0 51 0 52 0 53 0\n\
+            refused 1 0 site counters\n\
+            refused 14 0 site counters\n\
+            refused 14 0\n\
+            accepted site 6 5 0 7 5 0 8 5 0 9 5 0 \
+            counters 45 0 46 0 47 0 48 0 49 0 50 0 51 0 52 0 53 0\n\
+            sender 2\n";
+        assert_eq!(printed("test_calls", &input), expected);
+    }
+
+    #[test]
+    fn calls_outside_the_form_are_errors() {
+        let lines = [
+            "",
+            "Q 1",
+            "A 576 5 2 3",
+            "A 576 5 2 3 6 7",
+            "A 578 5 2 3 6",
+            "A 576 256 2 3 6",
+            "A 576 5 256 3 6",
+            "A 576 5 2 256 6",
+            "A 576 5 2 3 65536",
+            "R 576",
+            "R 578 0",
+            "R 576 256",
+            "L 0",
+            "L 256 0",
+            "L 0 4294967296",
+            "C 4294967296",
+            "C x",
+            "X 0 0 x",
+            "P 0",
+        ];
+        for line in lines {
+            assert!(
+                output("test_calls", format!("{line}\n").as_bytes()).is_err(),
+                "{line}"
+            );
+        }
     }
 
     #[test]

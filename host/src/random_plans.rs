@@ -4,15 +4,8 @@ use crate::bytes::{flow_command, node_command};
 use crate::random::Random;
 use crate::random_gaps::{doubtful_gaps, fitting_gaps, roomy_gaps};
 use crate::rules::{
-    children, route, CAPACITIES, DEADLINES, FLOW_NUMBERS, MOST_DEPTH, MOST_LINKS, RATES,
+    children, route, Flow, CAPACITIES, DEADLINES, FLOW_NUMBERS, MOST_DEPTH, MOST_LINKS, RATES,
 };
-
-struct Flow {
-    number: u64,
-    entry: usize,
-    rate: u64,
-    deadline: u64,
-}
 
 /// A plan before it is written as bytes. It may have more nodes or levels than 01 allows.
 struct Draft {
@@ -92,14 +85,14 @@ fn random_parent(random: &mut Random, parents: &[u64], habit: Habit, levels: usi
 }
 
 /// Numbers 0 to 63 in rising order, some of them or all.
-fn random_flow_numbers(random: &mut Random) -> Vec<u64> {
+fn random_flow_numbers(random: &mut Random) -> Vec<usize> {
     let count = match random.between(0, 99) {
         0..=19 => 0,
         20..=69 => 1 + random.index(4),
         70..=89 => 5 + random.index(16),
         _ => FLOW_NUMBERS,
     };
-    let mut numbers: Vec<u64> = (0..FLOW_NUMBERS as u64).collect();
+    let mut numbers: Vec<usize> = (0..FLOW_NUMBERS).collect();
     random.shuffle(&mut numbers);
     numbers.truncate(count);
     numbers.sort();
@@ -201,9 +194,10 @@ impl Draft {
     fn commands(&self) -> Vec<Vec<u8>> {
         let nodes = self.parents.iter().zip(&self.capacities).zip(&self.gaps);
         let nodes = nodes.map(|((&parent, &capacity), &gap)| node_command(parent, capacity, gap));
-        let flows = self.flows.iter();
-        let flows = flows
-            .map(|flow| flow_command(flow.number, flow.entry as u64, flow.rate, flow.deadline));
+        let flows = self.flows.iter().map(|flow| {
+            let (number, entry) = (flow.number as u64, flow.entry as u64);
+            flow_command(number, entry, flow.rate, flow.deadline)
+        });
         nodes.chain(flows).collect()
     }
 }

@@ -7,7 +7,7 @@ use crate::random::Random;
 use crate::rules::{Site, FLOW_NUMBERS, MOST_LINKS};
 
 /// A field, an index and a value, as test_altered reads them.
-type Triple = [u64; 3];
+pub type Triple = [u64; 3];
 
 /// Lines for test_altered: a plan, and alterations of its site.
 pub fn altered_lines(random: &mut Random) -> String {
@@ -28,7 +28,7 @@ pub fn altered_lines(random: &mut Random) -> String {
 }
 
 /// Most plans fit into the 64 bytes that test_altered can lend. A few are the plan of no bytes: its site is empty.
-fn site_to_alter(random: &mut Random) -> (Vec<u8>, Site) {
+pub fn site_to_alter(random: &mut Random) -> (Vec<u8>, Site) {
     if random.chance(3) {
         return (Vec::new(), Site::empty());
     }
@@ -50,7 +50,7 @@ fn random_room(random: &mut Random, plan: u64, schedule: u64) -> u64 {
     random.pick(&rooms).min(64)
 }
 
-fn random_alterations(random: &mut Random, site: &Site) -> Vec<Triple> {
+pub fn random_alterations(random: &mut Random, site: &Site) -> Vec<Triple> {
     let mut triples = Vec::new();
     for _ in 0..random.pick(&[0, 1, 1, 1, 1, 1, 1, 2, 2, 2, 3, 3]) {
         triples.extend(random_alteration(random, site));

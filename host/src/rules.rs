@@ -142,6 +142,24 @@ pub fn children(parents: &[u64], parent: usize) -> Vec<usize> {
         .collect()
 }
 
+/// A flow as a FLOW or an admission names it.
+#[derive(Clone, Copy, Debug, PartialEq, Eq)]
+pub struct Flow {
+    pub number: usize,
+    pub entry: usize,
+    pub rate: u64,
+    pub deadline: u64,
+}
+
+impl Flow {
+    /// 01, refusal 5. The entry node has no limit there; 6 judges it.
+    pub fn within_limits(&self) -> bool {
+        self.number < FLOW_NUMBERS
+            && RATES.contains(&self.rate)
+            && DEADLINES.contains(&self.deadline)
+    }
+}
+
 /// The site by value: node n has index n - 1, a flow its number, and whatever is not in use is 0.
 #[derive(Clone, Debug, PartialEq, Eq)]
 pub struct Site {
@@ -197,24 +215,54 @@ impl Site {
         }
     }
 
+    /// 01, below the table of states: the root is no entry node.
+    pub fn has_entry_node(&self, node: usize) -> bool {
+        (1..=self.links as usize).contains(&node)
+    }
+
+    pub fn is_live(&self, flow: usize) -> bool {
+        self.states[flow] != 0
+    }
+
     pub fn live_flows(&self) -> Vec<usize> {
         (0..FLOW_NUMBERS)
-            .filter(|&flow| self.states[flow] != 0)
+            .filter(|&flow| self.is_live(flow))
             .collect()
     }
 
-    fn route_of_flow(&self, flow: usize) -> Vec<usize> {
+    pub fn add_flow(&mut self, flow: Flow) {
+        let values = [1, flow.entry as u64, flow.rate, flow.deadline];
+        self.set_flow(flow.number, values);
+    }
+
+    pub fn remove_flow(&mut self, number: usize) {
+        self.set_flow(number, [0; 4]);
+    }
+
+    fn set_flow(&mut self, number: usize, [state, entry, rate, deadline]: [u64; 4]) {
+        self.states[number] = state;
+        self.entries[number] = entry;
+        self.rates[number] = rate;
+        self.deadlines[number] = deadline;
+    }
+
+    pub fn route_of_flow(&self, flow: usize) -> Vec<usize> {
         route(&self.parents, self.entries[flow] as usize)
     }
 
-    fn sum_on_route(&self, flow: usize, of_links: &[u64]) -> u64 {
-        let links = self.route_of_flow(flow);
+    fn sum_on_route(&self, node: usize, of_links: &[u64]) -> u64 {
+        let links = route(&self.parents, node);
         links.iter().map(|link| of_links[link - 1]).sum()
+    }
+
+    /// The sum of the wanted gaps from a node up to the root.
+    pub fn wanted_gaps(&self, node: usize) -> u64 {
+        self.sum_on_route(node, &self.gaps)
     }
 
     /// G of 01, "The list of demand 3".
     pub fn bound(&self, flow: usize) -> u64 {
-        self.sum_on_route(flow, &self.periods)
+        self.sum_on_route(self.entries[flow] as usize, &self.periods)
     }
 
     /// What the slot rule says under a parent with children.
@@ -248,7 +296,8 @@ impl Site {
         Ok(())
     }
 
-    fn reserved(&self, link: usize) -> u64 {
+    /// 01, "Reservations": the sum of the widths on a link.
+    pub fn reserved(&self, link: usize) -> u64 {
         self.live_flows()
             .into_iter()
             .filter(|&flow| self.route_of_flow(flow).contains(&link))
@@ -256,22 +305,28 @@ impl Site {
             .sum()
     }
 
+    pub fn is_overfull(&self, link: usize) -> bool {
+        self.reserved(link) > self.capacities[link - 1]
+    }
+
+    pub fn is_late(&self, flow: usize) -> bool {
+        self.wanted_gaps(self.entries[flow] as usize) > self.deadlines[flow]
+    }
+
     fn check_widths(&self) -> Result<(), Refusal> {
-        for link in self.nodes() {
-            if self.reserved(link) > self.capacities[link - 1] {
-                return refuse(12, link);
-            }
+        let mut links = self.nodes().into_iter();
+        match links.find(|&link| self.is_overfull(link)) {
+            Some(link) => refuse(12, link),
+            None => Ok(()),
         }
-        Ok(())
     }
 
     fn check_deadlines(&self) -> Result<(), Refusal> {
-        for flow in self.live_flows() {
-            if self.sum_on_route(flow, &self.gaps) > self.deadlines[flow] {
-                return refuse(13, flow);
-            }
+        let mut flows = self.live_flows().into_iter();
+        match flows.find(|&flow| self.is_late(flow)) {
+            Some(flow) => refuse(13, flow),
+            None => Ok(()),
         }
-        Ok(())
     }
 }
 
