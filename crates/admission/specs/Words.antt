@@ -3,7 +3,6 @@ use Prim.Native.Nat.{ℕ, _≤_, _<_}
 use mathlib.Core.Path.{_≡_}
 use mathlib.Core.Bool.{true, false}
 use mathlib.Core.List.{List}
-use mathlib.Core.Logic.{_⊎_}
 use lib.ListN.{length}
 use Rattle.pinwheel.specs.Outcome.{Checks, none, check}
 use Rattle.site.specs.declared.Site.{Site}
@@ -12,7 +11,7 @@ use Rattle.site.specs.Sites.{live}
 use Rattle.site.specs.Tree.{route}
 use Rattle.site.specs.Reservations.{gapsJudged, along}
 use Rattle.site.specs.Words.{RoomAlong, UnfitAt}
-use Rattle.limits.specs.Words.{FlowWithin, FlowGood, Sound}
+use Rattle.limits.specs.Words.{FlowGood, Sound, callChecks, flowChecks}
 
 -- The links of the flow's route.
 abbrev pub links : Site → Flow → List ℕ
@@ -36,25 +35,17 @@ pub record Releasable (s : Site) (counters : List ℕ) (n : ℕ) : Type 0 where
   pub few : n ≤ 63
   pub living : live s n ≡ true
 
--- 01, the order of a call that is lent counters: 1, 14, then the checks of its own.
-abbrev pub callChecks : Site → List ℕ → Checks → Checks
-callChecks s counters others =
-    check 1 (λ p. (length counters ≡ 576 → ⊥) × (p ≡ 0))
-    (check 14 (λ p. (Sound s → ⊥) × (p ≡ 0))
-    others)
-
--- 01, admission: 5, 6, 15, 17, 18, each with its place.
+-- 01, the order of an admission's checks, each with its place: 1, 14, 5, 6, 15, 17, 18.
 abbrev pub admissionChecks : Site → List ℕ → Flow → Checks
 admissionChecks s counters f =
     callChecks s counters
-    (check 5 (λ p. (FlowWithin f → ⊥) × (p ≡ 0))
-    (check 6 (λ p. ((f .entry ≡ 0) ⊎ (s .links < f .entry)) × (p ≡ 0))
+    (flowChecks (s .links) f
     (check 15 (λ p. (live s (f .number) ≡ true) × (p ≡ f .number))
     (check 17 (λ p. UnfitAt s (f .rate) (links s f) p)
     (check 18 (λ p. (f .deadline < along (gapsJudged s) (links s f)) × (p ≡ f .number))
-    none)))))
+    none))))
 
--- 01, release: 5, 16.
+-- 01, the order of a release's checks: 1, 14, 5, 16.
 abbrev pub releaseChecks : Site → List ℕ → ℕ → Checks
 releaseChecks s counters n =
     callChecks s counters

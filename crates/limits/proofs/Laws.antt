@@ -8,14 +8,16 @@ pub mod Passing
 pub mod Empty
 pub mod Flows
 use Prim.Native.Nat.{ℕ, _+_, _≤_, _<_}
-use mathlib.Core.Path.{_≡_, _∙_}
-use mathlib.Core.Bool.{true, false, not}
+use mathlib.Core.Path.{_≡_, refl, _∙_}
+use mathlib.Core.Bool.{Bool, true, false, not, cond, _||_}
 use mathlib.Core.List.{List}
-use mathlib.Core.Logic.{_↔_}
-use lib.Dec.{eqb}
+use mathlib.Core.Logic.{_⊎_, inl, inr, ⊎-elim, _↔_}
+use lib.Dec.{eqb, ltb}
 use lib.ListN.{length, getD}
-use borrow.Author.Tests.{eq-eqb, eqb-true, not-false}
+use borrow.Author.Tests.{eq-eqb, eqb-true, eqb-false, ltb-true, ltb-false, not-false}
 use native.Mathlib.Omega.{arith}
+use Rattle.pinwheel.specs.Outcome.{Outcome, refused, checked, Checks, Ruled}
+use Rattle.pinwheel.proofs.Laws.Outcomes.{checked-pass, checked-choice, ruled-test}
 use Rattle.site.specs.declared.Site.{Site}
 use Rattle.site.specs.declared.Flow.{Flow}
 use Rattle.site.specs.Sites.{ofLink, live, withFlow, withoutFlow}
@@ -25,9 +27,11 @@ use Rattle.site.specs.Reservations.{gapsJudged, routeOf, widthAt, load, along, 
 use Rattle.site.specs.Words.{Leads}
 use Rattle.schedule.proofs.Laws as slots
 use Rattle.site.proofs.Laws.Tree.{route-leads, route-falls}
+use Rattle.limits.specs.Limits.{badFlow, misplaced, flowLimits}
 use Rattle.limits.specs.Check.{flowOf, passesOf, callFault}
-use Rattle.limits.specs.Words.{FlowGood, Sound}
-use Rattle.limits.proofs.Laws.Tests.{passed}
+use Rattle.limits.specs.Words.{FlowGood, Sound, siteChecks, callChecks, flowChecks}
+use Rattle.limits.proofs.Laws.Tests.{passed, fails-when, not-when}
+use Rattle.limits.proofs.Laws.Forms.{flow-within}
 use Rattle.limits.proofs.Laws.Passing.{judged-when, passes-parts}
 use Rattle.limits.proofs.Laws.Flows.{live-few, live-fits, parent-below, route-short, without-none, without-with}
 use Rattle.limits.proofs.Laws.Flows.{sound-timed, sound-with, sound-without}
@@ -49,6 +53,42 @@ call-when s counters = (
       (eqb-true _ _ (not-false _ (a .0)), passes-sound s .0 (not-false _ (b .0))),
   λ w. simp (eq-eqb (length counters) 576 (w .0), passes-sound s .1 (w .1)),
 )
+
+-- These checks in words, each the first that fails: 14; 1 and 14; 5 and 6 of a flow.
+module _ {A : Type 0} (gives : A → Type 0) (o : Outcome A) (rest : Outcome A) (cs : Checks) (behind : (rest ≡ o) ↔ Ruled gives cs o) where
+  pub site-first : (s : Site) → (cond (not (passesOf s)) (refused 14 0) rest ≡ o) ↔ Ruled gives (siteChecks s cs) o
+  site-first s = ruled-test gives o (not (passesOf s)) 14 0 _ cs rest (not-when (passesOf s) _ (passes-sound s)) (λ _. behind)
+
+  pub call-first : (s : Site) (counters : List ℕ) → (checked (callFault s counters) rest ≡ o) ↔ Ruled gives (callChecks s counters cs) o
+  unfolding callFault
+  call-first s counters =
+      rw (
+        checked-choice (not (eqb (length counters) 576)) 1 (cond (not (passesOf s)) 14 0) rest (omega arith),
+        checked-choice (not (passesOf s)) 14 0 rest (omega arith),
+        checked-pass 0 rest refl,
+      )
+      (ruled-test gives o (not (eqb (length counters) 576)) 1 0 _ (siteChecks s cs) (cond (not (passesOf s)) (refused 14 0) rest)
+      (not-when (eqb (length counters) 576) _ (eqb-true _ _, eq-eqb _ _)) (λ _. site-first s))
+
+  pub flow-first : (links : ℕ) (f : Flow) → (checked (flowLimits links 0 f) rest ≡ o) ↔ Ruled gives (flowChecks links f cs) o
+  unfolding flowLimits misplaced
+  flow-first links f =
+      rw (
+        checked-choice (badFlow f) 5 (cond (misplaced links 0 f) 6 0) rest (omega arith),
+        checked-choice (misplaced links 0 f) 6 0 rest (omega arith),
+        checked-pass 0 rest refl,
+      )
+      (ruled-test gives o (badFlow f) 5 0 _ _ (cond (misplaced links 0 f) (refused 6 0) rest) (fails-when (badFlow f) _ (flow-within f))
+      (λ _. ruled-test gives o (misplaced links 0 f) 6 0 _ cs rest (wrong (eqb (f .entry) 0) refl (ltb links (f .entry)) refl) (λ _. behind)))
+    where
+      wrong : (a : Bool) → eqb (f .entry) 0 ≡ a → (b : Bool) → ltb links (f .entry) ≡ b
+          → (a || (b || ltb (f .number) 0) ≡ true) ↔ ((f .entry ≡ 0) ⊎ (links < f .entry))
+      wrong true p b q = (λ e. inl (eqb-true _ _ p), λ w. refl)
+      wrong false p true q = (λ e. inr (ltb-true _ _ q), λ w. refl)
+      wrong false p false q = (
+        λ e. absurd (omega (arith, ltb-true (f .number) 0 e)),
+        ⊎-elim (λ z. absurd (eqb-false _ _ p z)) (λ l. absurd (omega (arith, ltb-false links (f .entry) q))),
+      )
 
 module _ (s : Site) (e : passesOf s ≡ true) where
   sound : Sound s

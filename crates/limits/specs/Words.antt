@@ -4,6 +4,7 @@ use mathlib.Core.Path.{_≡_}
 use mathlib.Core.List.{List}
 use mathlib.Core.Logic.{_⊎_}
 use lib.ListN.{length, getD, replicate}
+use Rattle.pinwheel.specs.Outcome.{Checks, check}
 use Rattle.site.specs.declared.Site.{Site}
 use Rattle.site.specs.declared.Flow.{Flow}
 use Rattle.site.specs.Tree.{depthOf}
@@ -98,3 +99,18 @@ pub record Sound (s : Site) : Type 0 where
   pub carried : Carried s
   pub punctual : Punctual s
   pub own : s ≡ scheduled s
+
+-- 01, 14: the site handed in is none that passes. Then the other checks.
+abbrev pub siteChecks : Site → Checks → Checks
+siteChecks s others = check 14 (λ p. (Sound s → ⊥) × (p ≡ 0)) others
+
+-- 01, the order of a call that is lent counters: 1, 14, then the checks of its own.
+abbrev pub callChecks : Site → List ℕ → Checks → Checks
+callChecks s counters others = check 1 (λ p. (length counters ≡ 576 → ⊥) × (p ≡ 0)) (siteChecks s others)
+
+-- 01, 5 and 6 for a flow that is not one of a plan: no number has to be above another.
+abbrev pub flowChecks : ℕ → Flow → Checks → Checks
+flowChecks links f others =
+    check 5 (λ p. (FlowWithin f → ⊥) × (p ≡ 0))
+    (check 6 (λ p. ((f .entry ≡ 0) ⊎ (links < f .entry)) × (p ≡ 0))
+    others)

@@ -64,6 +64,12 @@ module _ {A : Type 0} where
       ⊎-elim (λ f. absurd (false≢true (u (f .0) (f .2) .0))) (λ f. r refl .1 (f .1)),
     )
 
+    -- A check with one place, by its test.
+    pub ruled-test : (t : Bool) (number place : ℕ) (F : Type 0) (cs : Checks) (rest : Outcome A) → ((t ≡ true) ↔ F)
+        → (t ≡ false → (rest ≡ o) ↔ Ruled gives cs o)
+        → (cond t (refused number place) rest ≡ o) ↔ Ruled gives (check number (λ p. F × (p ≡ place)) cs) o
+    ruled-test t number place F cs rest w r = ruled-check t number place _ cs rest (λ e. (w .0 e, refl)) (λ p f. (w .1 (f .0), f .1)) r
+
     pub ruled-end : (a : A) → gives a → ((b : A) → gives b → b ≡ a) → (accepted a ≡ o) ↔ Ruled gives none o
     unfolding Ruled
     ruled-end a g u = (λ e. (a, sym e, g), λ w. sym (w .1 ∙ ap accepted (u (w .0) (w .2))))

@@ -14,6 +14,7 @@ use Rattle.site.specs.declared.Site.{Site}
 use Rattle.site.specs.Sites.{live}
 use Rattle.limits.specs.Limits.{badNode, badFlow, misplaced, nodeLimits, flowLimits}
 use Rattle.limits.specs.Words.{NodeWithin, FlowWithin}
+use Rattle.limits.proofs.Laws.Tests.{fails-when}
 use Rattle.limits.proofs.Laws.Forms.{node-within, flow-within}
 use Rattle.format.specs.Commands.{sizeOf}
 use Rattle.format.proofs.Laws.{size-node, size-flow, size-none, size-kinds}
@@ -43,11 +44,6 @@ first-of-none n f = f
 
 first-none : (n : ℕ) → (n ≡ 0 → ⊥) → (0 ≡ n) ↔ FirstOf none n
 first-none n some = (λ e. absurd (some (sym e)), λ f. absurd (first-of-none n f))
-
--- A test that fails says that the words do not hold.
-fails-when : (t : Bool) (P : Type 0) → ((t ≡ false) ↔ P) → (t ≡ true) ↔ (P → ⊥)
-fails-when true P w = (λ e p. false≢true (sym (w .1 p)), λ n. refl)
-fails-when false P w = (λ e. absurd (false≢true e), λ n. absurd (n (w .0 refl)))
 
 -- A FLOW has been read, or one from number k on, just when a flow is live, or one from k on.
 module _ (s : Site) (next : ℕ) (w : NextOf s next) where
