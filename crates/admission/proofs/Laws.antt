@@ -1,31 +1,35 @@
--- What is proved of admission and release: when each is accepted, and which check refuses it with which place. The module named here holds a law for each answer of
--- the code.
+-- What is proved of admission and release: when each is accepted, which check refuses it with which place, what each leaves, and that the one undoes the other.
+-- The modules named here hold a law for each answer of the code, and the lemmas.
 pub mod Answers
-use Prim.Native.Nat.{ℕ, _+_, _*_, _≤_}
-use mathlib.Core.Path.{_≡_, refl, sym}
+pub mod Again
+use Prim.Native.Nat.{ℕ, _+_, _*_, _≤_, _<_}
+use mathlib.Core.Path.{_≡_, refl, sym, _∙_, ap}
 use mathlib.Core.Bool.{true, not}
-use mathlib.Core.List.{List}
+use mathlib.Core.List.{List, []}
 use mathlib.Core.Logic.{_↔_}
 use lib.Dec.{eqb, ltb}
-use lib.ListN.{length}
+use lib.ListN.{length, getD}
 use borrow.Author.Tests.{lt-ltb, ne-eqb, ltb-true, ltb-false, eqb-true, eqb-false, not-true, not-false}
 use native.Mathlib.Omega.{arith}
-use Rattle.pinwheel.specs.Outcome.{accepted, none, Ruled}
-use Rattle.pinwheel.proofs.Laws.Outcomes.{past, checked-past, ruled-check, ruled-test, ruled-end}
+use Rattle.pinwheel.specs.Outcome.{accepted, refused, settled, none, Ruled}
+use Rattle.pinwheel.proofs.Laws.Outcomes.{past, checked-past, settled-accepted, settled-refused, ruled-check, ruled-test, ruled-end}
 use Rattle.site.specs.declared.Site.{Site}
 use Rattle.site.specs.declared.Flow.{Flow}
-use Rattle.site.specs.Sites.{live}
+use Rattle.site.specs.Sites.{live, withFlow, withoutFlow}
 use Rattle.site.specs.Reservations.{gapsJudged, along}
-use Rattle.site.specs.Words.{RoomAlong, UnfitAt}
+use Rattle.site.specs.Words.{HasRoom, RoomAlong, UnfitAt}
 use Rattle.site.proofs.Laws.{room-when, unfit-when}
-use Rattle.site.proofs.Laws.Tree.{route-some}
+use Rattle.site.proofs.Laws.Tree.{has-when, route-some}
+use Rattle.site.proofs.Laws.Reservations.{live-with}
 use Rattle.limits.specs.Limits.{flowLimits}
-use Rattle.limits.specs.Check.{callFault}
-use Rattle.limits.proofs.Laws.{call-when, call-first, flow-first}
+use Rattle.limits.specs.Check.{flowOf, passesOf, callFault}
+use Rattle.limits.proofs.Laws.{passes-sound, call-when, call-first, flow-first, flow-added, flow-back}
 use Rattle.limits.proofs.Laws.Forms.{flow-good}
-use Rattle.admission.specs.Calls.{Ruling, unfitLink, admitRuling, releaseRuling}
+use Rattle.counters.specs.Blocks.{withCells, zeros}
+use Rattle.admission.specs.Calls.{Ruling, change, unfitLink, admitRuling, admitOf, releaseRuling, releaseOf}
 use Rattle.admission.specs.Words.{links, Admissible, Releasable, admissionChecks, releaseChecks}
 use Rattle.admission.proofs.Laws.Answers.{admit-passes, release-passes}
+use Rattle.admission.proofs.Laws.Again.{again-site, again-admissible}
 
 -- 17 finds nothing just when the width fits on every link of the route.
 route-room : (s : Site) (f : Flow) → (unfitLink s f ≡ 0) ↔ RoomAlong s (f .rate) (links s f)
@@ -105,3 +109,76 @@ releases-first s counters n o =
     (ruled-test nothing o (ltb 63 n) 5 0 _ _ _ (ltb-true _ _, lt-ltb _ _)
     (λ _. ruled-test nothing o (not (live s n)) 16 n _ none _ (not-true _, λ e. rw e)
     (λ _. ruled-end nothing o tt tt (λ b w. refl)))) s counters
+
+-- What a change tells that was accepted, and one that was refused: by any ruling.
+module _ (r : Ruling) (next s t : Site) (new counters ds : List ℕ) where
+  change-accepted : (accepted tt, t, ds) ≡ change r next s new counters → (r ≡ accepted tt) × (t ≡ next) × (ds ≡ new)
+  unfolding change
+  change-accepted e =
+      let a : accepted tt ≡ r = ap (λ (q : Ruling × Site × List ℕ). q .0) e in (
+        sym a,
+        ap (λ (q : Ruling × Site × List ℕ). q .1) e ∙ settled-accepted r next s a,
+        ap (λ (q : Ruling × Site × List ℕ). q .2) e ∙ settled-accepted r new counters a,
+      )
+
+  change-refused : (number place : ℕ) → (refused number place, t, ds) ≡ change r next s new counters → (t ≡ s) × (ds ≡ counters)
+  unfolding change
+  change-refused number place e =
+      let a : refused number place ≡ r = ap (λ (q : Ruling × Site × List ℕ). q .0) e in (
+        ap (λ (q : Ruling × Site × List ℕ). q .1) e ∙ settled-refused r next s a,
+        ap (λ (q : Ruling × Site × List ℕ). q .2) e ∙ settled-refused r new counters a,
+      )
+
+  changed : r ≡ accepted tt → change r next s new counters ≡ (accepted tt, next, new)
+  unfolding change settled
+  changed e = rw e
+
+-- What the calls answer and leave: an accepted one its change, a refused one what was there.
+module _ (s t : Site) (counters ds : List ℕ) where
+  pub admit-accepted : (f : Flow) → (accepted tt, t, ds) ≡ admitOf s counters f
+      → Admissible s counters f × (t ≡ withFlow s f) × (ds ≡ withCells (f .number) (zeros 9) counters)
+  unfolding admitOf
+  admit-accepted f e = let w = change-accepted _ _ s t _ counters ds e in (admits-when s counters f .0 (w .0), w .1, w .2)
+
+  pub admit-refused : (f : Flow) (number place : ℕ) → (refused number place, t, ds) ≡ admitOf s counters f → (t ≡ s) × (ds ≡ counters)
+  unfolding admitOf
+  admit-refused f number place e = change-refused _ _ s t _ counters ds number place e
+
+  pub release-accepted : (n : ℕ) → (accepted tt, t, ds) ≡ releaseOf s counters n
+      → Releasable s counters n × (t ≡ withoutFlow s n) × (ds ≡ withCells n (zeros 9) counters)
+  unfolding releaseOf
+  release-accepted n e = let w = change-accepted _ _ s t _ counters ds e in (releases-when s counters n .0 (w .0), w .1, w .2)
+
+  pub release-refused : (n number place : ℕ) → (refused number place, t, ds) ≡ releaseOf s counters n → (t ≡ s) × (ds ≡ counters)
+  unfolding releaseOf
+  release-refused n number place e = change-refused _ _ s t _ counters ds number place e
+
+-- A site that passes check 14 passes it after an accepted admission. (After a release it does by `flow-taken` of crate `limits`.)
+pub admitted-passes : (s : Site) (counters : List ℕ) (f : Flow) → Admissible s counters f → passesOf (withFlow s f) ≡ true
+admitted-passes s counters f w =
+    flow-added s (passes-sound s .1 (w .sound)) f (w .free) (w .good) (λ m h. fits m (has-when m (links s f) .0 h)) (w .time)
+  where
+    fits : (m : ℕ) → (j : ℕ) × (j < length (links s f)) × (getD (links s f) j 0 ≡ m) → HasRoom s (f .rate) m
+    fits m (j, l, e) = rw e at (w .room .each j l)
+
+-- What was released can be admitted again, with any 576 counters: it is accepted, and the site is the one before the release.
+pub released-again : (s : Site) (counters : List ℕ) (n : ℕ) → releaseRuling s counters n ≡ accepted tt → (ds : List ℕ) → length ds ≡ 576
+    → admitOf (withoutFlow s n) ds (flowOf s n) ≡ (accepted tt, s, withCells n (zeros 9) ds)
+unfolding admitOf flowOf
+released-again s counters n e ds long =
+    let w = releases-when s counters n .0 e in
+    changed _ _ _ s _ ds [] (admits-when _ ds (flowOf s n) .1 (again-admissible s (w .sound) n (w .living) ds long))
+    ∙ ap (λ (t : Site). (accepted tt, t, withCells n (zeros 9) ds)) (again-site s n (w .living))
+
+-- What was admitted can be released: the site is the one before the admission.
+pub admitted-back : (s : Site) (counters : List ℕ) (f : Flow) → admitRuling s counters f ≡ accepted tt → (ds : List ℕ) → length ds ≡ 576
+    → releaseOf (withFlow s f) ds (f .number) ≡ (accepted tt, s, withCells (f .number) (zeros 9) ds)
+unfolding releaseOf
+admitted-back s counters f e ds long =
+    let w = admits-when s counters f .0 e in
+    changed _ _ _ s _ ds [] (releases-when _ ds (f .number) .1 (record {
+      counted = long;
+      sound = passes-sound _ .0 (admitted-passes s counters f w);
+      few = w .good .within .number-most;
+      living = live-with s f (omega (arith, w .good .within .number-most, w .sound .formed .shape .states));
+    })) ∙ ap (λ (t : Site). (accepted tt, t, withCells (f .number) (zeros 9) ds)) (flow-back s (passes-sound s .1 (w .sound)) f (w .free))

@@ -1,16 +1,19 @@
 -- The starred examples of 01, "Marked plans", as one table. A row names an input and its whole result; what it claims is said by the
 -- definitions that the promises cite.
-use Prim.Native.Nat.{ℕ}
+use Prim.Native.Nat.{ℕ, _+_}
 use mathlib.Core.Path.{_≡_}
-use mathlib.Core.List.{List, [], _∷_}
+use mathlib.Core.List.{List, [], _∷_, _++_}
 use lib.ListN.{length, replicate}
 use Rattle.pinwheel.specs.Outcome.{Outcome, accepted, refused}
 use Rattle.pinwheel.specs.Deal.{dealt}
 use Rattle.site.specs.declared.Site.{Site}
+use Rattle.site.specs.declared.Flow.{Flow}
 use Rattle.site.specs.Sites.{emptySite}
+use Rattle.schedule.specs.Schedule.{listed}
 use Rattle.schedule.specs.Judge.{withSite}
 use Rattle.reader.specs.Read.{readOf}
 use Rattle.writer.specs.Write.{scheduleBytes, writtenIf}
+use Rattle.admission.specs.Calls.{Ruling, admitOf}
 
 pub data Row : Type 0 where
   -- The slot rule called alone on these gaps and on lists with these offsets and periods: outcome, offsets, periods.
@@ -19,6 +22,8 @@ pub data Row : Type 0 where
   reads : List ℕ → Outcome (Unit {0}) × Site → Row
   -- A plan's bytes and those of its schedule.
   schedules : List ℕ → List ℕ → Row
+  -- A plan's bytes, counters and a flow, and what admitting it on the site read answers, the site that it gives and the counters then.
+  admits : List ℕ → List ℕ → Flow → Ruling × Site × List ℕ → Row
 
 -- What is written of the schedule of the site that a plan reads to.
 abbrev scheduleOf : Outcome (Unit {0}) × Site → List ℕ → Outcome ℕ × List ℕ
@@ -29,11 +34,40 @@ abbrev planP : ℕ → ℕ → List ℕ
 planP capacity deadline =
     1 ∷ 0 ∷ 20 ∷ 0 ∷ 4 ∷ 0 ∷ 1 ∷ 0 ∷ 20 ∷ 0 ∷ 6 ∷ 0 ∷ 1 ∷ 1 ∷ capacity ∷ 0 ∷ 3 ∷ 0 ∷ 2 ∷ 0 ∷ 3 ∷ 3 ∷ deadline ∷ 0 ∷ 255 ∷ []
 
+-- The site that P reads to, with flows as these lists have them.
+abbrev siteP : List ℕ → List ℕ → List ℕ → List ℕ → Site
+siteP states entries rates deadlines = record {
+  links = 3;
+  parents = 0 ∷ 0 ∷ 1 ∷ replicate 60 0;
+  capacities = 20 ∷ 20 ∷ 9 ∷ replicate 60 0;
+  gaps = 4 ∷ 6 ∷ 3 ∷ replicate 60 0;
+  offsets = 0 ∷ 1 ∷ 0 ∷ replicate 60 0;
+  periods = 4 ∷ 4 ∷ 3 ∷ replicate 60 0;
+  states = states;
+  entries = entries;
+  rates = rates;
+  deadlines = deadlines;
+}
+
+-- P as it is read, and P with number 5 at node 2, rate 3 and deadline 6.
+abbrev before : Site
+before = siteP (1 ∷ replicate 63 0) (3 ∷ replicate 63 0) (3 ∷ replicate 63 0) (7 ∷ replicate 63 0)
+
+abbrev after : Site
+after =
+    siteP (1 ∷ 0 ∷ 0 ∷ 0 ∷ 0 ∷ 1 ∷ replicate 58 0) (3 ∷ 0 ∷ 0 ∷ 0 ∷ 0 ∷ 2 ∷ replicate 58 0)
+    (3 ∷ 0 ∷ 0 ∷ 0 ∷ 0 ∷ 3 ∷ replicate 58 0) (7 ∷ 0 ∷ 0 ∷ 0 ∷ 0 ∷ 6 ∷ replicate 58 0)
+
+-- r counters from number i on, no two equal; the last of all 576 is 4,294,967,295.
+abbrev counters : ℕ → ℕ → List ℕ
+counters r i = listed (λ k. 4294966720 + k) r i
+
 -- What a row claims.
 abbrev pub Holds : Row → Type 0
 Holds (deals gaps offsets periods result) = dealt 2 gaps offsets periods ≡ result
 Holds (reads plan result) = withSite (readOf plan) ≡ result
 Holds (schedules plan bytes) = scheduleOf (withSite (readOf plan)) (replicate (length bytes) 0) ≡ (accepted (length bytes), bytes)
+Holds (admits plan cells flow result) = admitOf (withSite (readOf plan) .1) cells flow ≡ result
 
 abbrev pub All : List Row → Type 0
 All [] = Unit {0}
@@ -53,4 +87,8 @@ table =
     schedules (planP 9 7) (17 ∷ 1 ∷ 0 ∷ 0 ∷ 4 ∷ 0 ∷ 17 ∷ 2 ∷ 1 ∷ 0 ∷ 4 ∷ 0 ∷ 17 ∷ 3 ∷ 0 ∷ 0 ∷ 3 ∷ 0 ∷ 255 ∷ []) ∷
     reads (planP 9 6) (refused 13 0, emptySite) ∷
     reads (planP 8 7) (refused 12 3, emptySite) ∷
+    admits (planP 9 7) (counters 576 0) (record { number = 5; entry = 2; rate = 3; deadline = 6 })
+    (accepted tt, after, counters 45 0 ++ (replicate 9 0 ++ counters 522 54)) ∷
+    admits (planP 9 7) (counters 576 0) (record { number = 5; entry = 2; rate = 4; deadline = 6 }) (refused 17 2, before, counters 576 0) ∷
+    admits (planP 9 7) (counters 576 0) (record { number = 5; entry = 2; rate = 3; deadline = 5 }) (refused 18 5, before, counters 576 0) ∷
     []

@@ -281,7 +281,7 @@ module _ (s : Site) (n state entry rate deadline : ℕ) where
   width-other m k h =
       rw (getD-set-other (s .states) n k state 0 h, getD-set-other (s .entries) n k entry 0 h, getD-set-other (s .rates) n k rate 0 h)
 
-  live-here : n < length (s .states) → live (withFields s n state entry rate deadline) n ≡ eqb state 1
+  pub live-here : n < length (s .states) → live (withFields s n state entry rate deadline) n ≡ eqb state 1
   unfolding live
   live-here l = rw (getD-set-same (s .states) n state 0 l)
 
@@ -289,6 +289,11 @@ module _ (s : Site) (n state entry rate deadline : ℕ) where
       → load (withFields s n state entry rate deadline) m + widthOn s m n ≡ load s m + widthOn (withFields s n state entry rate deadline) m n
   unfolding load
   load-change m l = sum-except (widthOn (withFields s n state entry rate deadline) m) (widthOn s m) n 64 (width-other m) l
+
+-- A flow that is taken in is live.
+pub live-with : (s : Site) (f : Flow) → f .number < length (s .states) → live (withFlow s f) (f .number) ≡ true
+unfolding withFlow
+live-with s f l = live-here s (f .number) 1 (f .entry) (f .rate) (f .deadline) l
 
 -- A live flow more, at a number that is not live.
 module _ (s : Site) (f : Flow) (few : f .number < 64) (states-long : length (s .states) ≡ 64) (entries-long : length (s .entries) ≡ 64) where
