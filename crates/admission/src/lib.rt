@@ -4,12 +4,10 @@ use schedule::Verdict;
 use site::Flow;
 use site::Site;
 ghost use mathlib.Core.Path.{_≡_};
-ghost use Prim.Native.Nat.{_+_, _*_, _≤_};
-ghost use lib.ListN.{length};
-ghost use Rattle.pinwheel.specs.Outcome.{accepted, settled};
+ghost use Rattle.pinwheel.specs.Outcome.{settled};
 ghost use Rattle.schedule.specs.Judge.{ruling};
-ghost use Rattle.counters.specs.Blocks.{withCells, zeros};
 ghost use Rattle.admission.specs.Calls.{admitRuling, admitOf, releaseRuling, releaseOf};
+ghost use Rattle.admission.specs.Inner.{cleared};
 
 // The checks of an admission in their order: 1 and 14, 5 and 6, 15, 17, 18.
 fn judge_admission(site: Site, counters: &[u32], flow: Flow) -> Verdict
@@ -20,20 +18,22 @@ fn judge_admission(site: Site, counters: &[u32], flow: Flow) -> Verdict
         return Verdict::Refused(call, 0);
     }
     let limit = limits::flow_limits(site.links, 0, flow);
-    let number = flow.number;
+    let live = site::is_live(site, flow.number);
+    let number = flow.number as usize;
     if limit != 0 {
         return Verdict::Refused(limit, 0);
     }
-    if site::is_live(site, number) {
-        return Verdict::Refused(15, number as usize);
+    if live {
+        return Verdict::Refused(15, number);
     }
-    let unfit = site::first_unfit(site, flow);
+    let link = site::first_unfit(site, flow) as usize;
     let gaps = site::gaps_along(site, flow.entry);
-    if unfit != 0 {
-        return Verdict::Refused(17, unfit as usize);
+    let deadline = flow.deadline as u32;
+    if link != 0 {
+        return Verdict::Refused(17, link);
     }
-    if (flow.deadline as u32) < gaps {
-        return Verdict::Refused(18, number as usize);
+    if deadline < gaps {
+        return Verdict::Refused(18, number);
     }
     Verdict::Accepted
 }
@@ -55,16 +55,17 @@ fn judge_release(site: Site, counters: &[u32], number: u8) -> Verdict
     Verdict::Accepted
 }
 
-// An accepted call sets the nine cells of its flow number to 0. They are lent on from where they stand in the counters.
+// An accepted call sets the nine cells of its flow number to 0, if the counters have them. They are lent on from where they stand.
 fn clear_cells(verdict: Verdict, counters: &mut [u32], number: u8)
-    requires { ⌜ (ruling verdict ≡ accepted tt → 9 * number + 9 ≤ length (now counters)) ⌝ }
-    ensures { λ _. ⌜ now (counters .exit) ≡ settled (ruling verdict) (withCells number (zeros 9) (now (counters .entry))) (now (counters .entry)) ⌝ }
+    ensures { λ _. ⌜ now (counters .exit) ≡ settled (ruling verdict) (cleared number (now (counters .entry))) (now (counters .entry)) ⌝ }
 {
     match verdict {
         Verdict::Accepted => {
             let at = 9 * number as usize;
             let end = at + 9;
-            counters::clear(&mut counters[at..end]);
+            if end <= counters.len() {
+                counters::clear(&mut counters[at..end]);
+            }
         }
         Verdict::Refused(_number, _place) => {}
     }

@@ -5,7 +5,7 @@ use mathlib.Core.Bool.{Bool, true, false, not}
 use mathlib.Core.List.{List, _++_}
 use lib.ListN.{length, take, drop, length-drop}
 use lib.Seq.{length-take-le}
-use borrow.Author.Tests.{lt-ltb, le-ltb, eq-eqb, ne-eqb}
+use borrow.Author.Tests.{lt-ltb, le-ltb, le-leb, lt-leb, eq-eqb, ne-eqb}
 use native.Mathlib.Omega.{arith}
 use Rattle.pinwheel.specs.Outcome.{accepted, refused, settled}
 use Rattle.pinwheel.proofs.Laws.Outcomes.{checked-pass, checked-fail}
@@ -22,6 +22,7 @@ use Rattle.limits.specs.Check.{callFault}
 use Rattle.counters.specs.Blocks.{withCells, zeros}
 use Rattle.counters.proofs.Laws.{block-back}
 use Rattle.admission.specs.Calls.{Ruling, change, unfitLink, admitRuling, releaseRuling}
+use Rattle.admission.specs.Inner.{cleared}
 
 -- An admission, check by check: `call` and `limit` are what the callees answer.
 module _ (s : Site) (cs : List ℕ) (f : Flow) (call : ℕ) (calls : call ≡ callFault s cs) where
@@ -87,26 +88,31 @@ cells-cleared n ys cs fits e =
 
 -- What becomes of the counters by the verdict.
 module _ (v : Verdict) (n : ℕ) (cs : List ℕ) where
-  pub clear-accepted : (ys : List ℕ) → v ≡ Accepted → (ruling v ≡ accepted tt → 9 * n + 9 ≤ length cs)
-      → ys ≡ zeros (length (take (9 * n + 9 - 9 * n) (drop (9 * n) cs)))
-      → take (9 * n) cs ++ (ys ++ drop (9 * n + 9 - 9 * n) (drop (9 * n) cs)) ≡ settled (ruling v) (withCells n (zeros 9) cs) cs
-  unfolding settled
-  clear-accepted ys e fits q = rw e (cells-cleared n ys cs (fits (ap ruling e)) q)
+  pub clear-accepted : (ys : List ℕ) → v ≡ Accepted → 9 * n + 9 ≤ length cs → ys ≡ zeros (length (take (9 * n + 9 - 9 * n) (drop (9 * n) cs)))
+      → take (9 * n) cs ++ (ys ++ drop (9 * n + 9 - 9 * n) (drop (9 * n) cs)) ≡ settled (ruling v) (cleared n cs) cs
+  unfolding settled cleared
+  clear-accepted ys e fits q = rw (e, le-leb _ _ fits) (cells-cleared n ys cs fits q)
 
-  pub clear-refused : (number place : ℕ) → v ≡ Refused number place → cs ≡ settled (ruling v) (withCells n (zeros 9) cs) cs
+  pub clear-short : v ≡ Accepted → length cs < 9 * n + 9 → cs ≡ settled (ruling v) (cleared n cs) cs
+  unfolding settled cleared
+  clear-short e short = rw (e, lt-leb _ _ short)
+
+  pub clear-refused : (number place : ℕ) → v ≡ Refused number place → cs ≡ settled (ruling v) (cleared n cs) cs
   unfolding settled
   clear-refused number place e = rw e
 
 -- What a call answers and leaves by the verdict.
-module _ (v : Verdict) (r : Ruling) (rules : ruling v ≡ r) (next s : Site) (new cs ds : List ℕ) (cells : ds ≡ settled (ruling v) new cs) where
-  pub call-accepted : (t : Site) → v ≡ Accepted → t ≡ next → (ruling v, t, ds) ≡ change r next s new cs
-  unfolding settled change
-  call-accepted t e q =
-      let k : ds ≡ new = rw e at cells in
+module _ (v : Verdict) (r : Ruling) (rules : ruling v ≡ r) (next s : Site) (n : ℕ) (cs ds : List ℕ) (cells : ds ≡ settled (ruling v) (cleared n cs) cs) where
+  pub call-accepted : (t : Site) → v ≡ Accepted → t ≡ next → (r ≡ accepted tt → 9 * n + 9 ≤ length cs)
+      → (ruling v, t, ds) ≡ change r next s (withCells n (zeros 9) cs) cs
+  unfolding settled change cleared
+  call-accepted t e q room =
       let a : accepted tt ≡ r = rw e at rules in
+      let fits = room (sym a) in
+      let k : ds ≡ withCells n (zeros 9) cs = rw (e, le-leb _ _ fits) at cells in
       rw (k, q, e, ← a)
 
-  pub call-refused : (number place : ℕ) → v ≡ Refused number place → (refused number place, s, ds) ≡ change r next s new cs
+  pub call-refused : (number place : ℕ) → v ≡ Refused number place → (refused number place, s, ds) ≡ change r next s (withCells n (zeros 9) cs) cs
   unfolding settled change
   call-refused number place e =
       let k : ds ≡ cs = rw e at cells in

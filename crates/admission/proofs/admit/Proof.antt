@@ -1,6 +1,5 @@
 -- Right because the verdict is that of the checks, and the site and the counters are settled by it.
 use borrow.Author.Needs.{needs}
-use mathlib.Core.Path.{sym, _∙_}
 use Rattle.admission.specs.Calls.{admitOf}
 use Rattle.admission.proofs.Laws.{admitted-cells}
 use Rattle.admission.proofs.Laws.Answers.{call-accepted, call-refused}
@@ -11,7 +10,7 @@ judge-admission-requires : tie.Need-judge-admission-requires
 judge-admission-requires c κs = search needs
 
 clear-cells-requires : tie.Need-clear-cells-requires
-clear-cells-requires c κs = λ e. admitted-cells _ _ _ (sym (c .before .judge-admission .ensures) ∙ e)
+clear-cells-requires c κs = search needs
 
 enum-told : tie.Need-enum-told
 enum-told c = search needs
@@ -27,7 +26,9 @@ same-length c = search needs
 
 returns : tie.Need-returns
 unfolding admitOf
-returns c = call-accepted _ _ (c .before .before .before .before .before .before .before .judge-admission .ensures) _ _ _ _ _ (c .before .before .before .before .before .clear-cells .ensures) _ (c .before .enum-told .given .1) (c .with-flow .ensures)
+returns c =
+    call-accepted _ _ (c .before .before .before .before .before .before .before .judge-admission .ensures) _ _ _ _ _ (c .before .before .before .before .before .clear-cells .ensures) _ (c .before .enum-told .given .1) (c .with-flow .ensures)
+    (admitted-cells _ _ _)
 
 same-length-2 : tie.Need-same-length-2
 same-length-2 c = search needs

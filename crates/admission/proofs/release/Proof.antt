@@ -1,6 +1,5 @@
 -- Right because the verdict is that of the checks, and the site and the counters are settled by it.
 use borrow.Author.Needs.{needs}
-use mathlib.Core.Path.{sym, _∙_}
 use Rattle.admission.specs.Calls.{releaseOf}
 use Rattle.admission.proofs.Laws.{released-cells}
 use Rattle.admission.proofs.Laws.Answers.{call-accepted, call-refused}
@@ -11,7 +10,7 @@ judge-release-requires : tie.Need-judge-release-requires
 judge-release-requires c κs = search needs
 
 clear-cells-requires : tie.Need-clear-cells-requires
-clear-cells-requires c κs = λ e. released-cells _ _ _ (sym (c .before .judge-release .ensures) ∙ e)
+clear-cells-requires c κs = search needs
 
 enum-told : tie.Need-enum-told
 enum-told c = search needs
@@ -27,7 +26,9 @@ same-length c = search needs
 
 returns : tie.Need-returns
 unfolding releaseOf
-returns c = call-accepted _ _ (c .before .before .before .before .before .before .before .judge-release .ensures) _ _ _ _ _ (c .before .before .before .before .before .clear-cells .ensures) _ (c .before .enum-told .given .1) (c .without-flow .ensures)
+returns c =
+    call-accepted _ _ (c .before .before .before .before .before .before .before .judge-release .ensures) _ _ _ _ _ (c .before .before .before .before .before .clear-cells .ensures) _ (c .before .enum-told .given .1) (c .without-flow .ensures)
+    (released-cells _ _ _)
 
 same-length-2 : tie.Need-same-length-2
 same-length-2 c = search needs
