@@ -3,76 +3,8 @@
 // reads to, each a field, an index and a value. A line that begins with `#` is printed as it stands.
 use site::Site;
 use writer::Written;
-ghost use Prim.Native.Nat.{_≤_, _<_};
 ghost use mathlib.Core.Path.{_≡_};
 ghost use lib.ListN.{length};
-
-// The largest value of a field's entries: links, parents, states, entry nodes and rates have 8 bits.
-fn largest(field: usize) -> usize
-    ensures { λ r. ⌜ r < 65536 ⌝ }
-{
-    match field {
-        0 | 1 | 6 | 7 | 8 => 255,
-        _ => 65535,
-    }
-}
-
-fn low(value: usize) -> u8 {
-    (value % 256) as u8
-}
-
-// The site with one entry changed, or as it is where the field has no such entry or the value is too large. Field 0 is a single number: its
-// index plays no part.
-fn changed(site: Site, field: usize, index: usize, value: usize) -> Site {
-    let mut next = site;
-    if largest(field) < value {
-        return next;
-    }
-    let byte = low(value);
-    let word = value as u16;
-    if field == 0 {
-        next.links = byte;
-    }
-    if index < 63 {
-        match field {
-            1 => next.parents[index] = byte,
-            2 => next.capacities[index] = word,
-            3 => next.gaps[index] = word,
-            4 => next.offsets[index] = word,
-            5 => next.periods[index] = word,
-            _ => {}
-        }
-    }
-    if index < 64 {
-        match field {
-            6 => next.states[index] = byte,
-            7 => next.entries[index] = byte,
-            8 => next.rates[index] = byte,
-            9 => next.deadlines[index] = word,
-            _ => {}
-        }
-    }
-    next
-}
-
-// The site with all the changes of a line made in turn; the last one is passed over if it is not complete.
-fn altered(site: Site, line: &[u8], start: usize) -> Site
-    requires { ⌜ start ≤ length (now line) ⌝ }
-{
-    let mut next = site;
-    let mut at = start;
-    while at < line.len() {
-        let field = test_text::next_number(line, at);
-        let index = test_text::next_number(line, field.next);
-        let value = test_text::next_number(line, index.next);
-        if value.found {
-            let more = changed(next, field.value, index.value, value.value);
-            next = more;
-        }
-        at = value.next;
-    }
-    next
-}
 
 // Byte i is 100 + i, so that every byte that a writer leaves alone can be told.
 fn numbered() -> [u8; 64]
@@ -112,23 +44,16 @@ fn show_case(line: &[u8], site: Site) {
     let room = test_text::next_number(line, 0);
     let n = room.value;
     let mut out = numbered();
-    let next = altered(site, line, room.next);
+    let next = test_text::altered(site, line, room.next);
     if n <= 64 {
         show(next, &mut out[..n]);
     }
 }
 
-fn read_site(line: &[u8]) -> Site {
-    let mut bytes = test_text::plan_space();
-    let n = test_text::parse_hex(line, &mut bytes);
-    let read = reader::read_plan(&bytes[..n]);
-    read.site
-}
-
 // Answers the site to be altered from here on.
 fn show_line(line: &[u8], site: Site) -> Site {
     if test_text::begins(line, b'P') {
-        return read_site(line);
+        return test_text::read_site(line);
     }
     if !test_text::echo(line) {
         show_case(line, site);

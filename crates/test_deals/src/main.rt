@@ -44,10 +44,6 @@ fn numbered(first: u16) -> [u16; 66]
     list
 }
 
-fn word(value: usize) -> u16 {
-    (value % 65536) as u16
-}
-
 // Puts the line's numbers from `start` on into the list; answers how many there are.
 fn parse_gaps(line: &[u8], start: usize, gaps: &mut [u16]) -> usize
     requires { ⌜ start ≤ length (now line) ⌝ }
@@ -60,7 +56,7 @@ fn parse_gaps(line: &[u8], start: usize, gaps: &mut [u16]) -> usize
         if !number.found {
             break;
         }
-        gaps[n] = word(number.value);
+        gaps[n] = test_text::low16(number.value);
         at = number.next;
         n += 1;
     }

@@ -20,8 +20,8 @@ loop-holds c = search needs
 next-number-requires : tie.Need-next-number-requires Inv-loop μ-loop
 next-number-requires c κs = search needs
 
-word-requires : tie.Need-word-requires Inv-loop μ-loop
-word-requires c κs = search needs
+low16-requires : tie.Need-low16-requires Inv-loop μ-loop
+low16-requires c κs = search needs
 
 mul-gaps : tie.Need-mul-gaps Inv-loop μ-loop
 mul-gaps c = search needs
@@ -53,4 +53,4 @@ returns-2 c = search needs
 pub parse-gaps-spec : {M : Type 1} → statement M
 parse-gaps-spec =
     tie.close
-    (tie.spec Inv-loop μ-loop loop-holds next-number-requires word-requires mul-gaps slice-write-gaps add-n loop-less loop-again same-length returns same-length-2 returns-2)
+    (tie.spec Inv-loop μ-loop loop-holds next-number-requires low16-requires mul-gaps slice-write-gaps add-n loop-less loop-again same-length returns same-length-2 returns-2)

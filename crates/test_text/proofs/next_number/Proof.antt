@@ -7,7 +7,7 @@ use Rattle.test_text.proofs.next_number.Statement.{statement}
 use Rattle.test_text.proofs.next_number.Tie as tie
 
 abbrev Inv-loop : tie.InvT-loop
-Inv-loop line start first value₀ at₀ value at = (start ≤ first) × (first ≤ at) × (at ≤ length line) × (value < 1000000)
+Inv-loop line start first value₀ at₀ value at = (start ≤ first) × (first ≤ at) × (at ≤ length line) × (value < 10000000000)
 
 abbrev μ-loop : tie.MeasureT-loop
 μ-loop line start first value₀ at₀ value at = length line - at

@@ -1,0 +1,38 @@
+-- Right because the part that is lent has as many counters as the operand says, which the test says are there: a desk has 577.
+use borrow.Author.Needs.{needs}
+use mathlib.Core.Path.{_≡_}
+use lib.ListN.{length, length-take}
+use native.Mathlib.Omega.{arith}
+use Rattle.test_calls.proofs.call.Statement.{statement}
+use Rattle.test_calls.proofs.call.Tie as tie
+
+operands-requires : tie.Need-operands-requires
+operands-requires c κs = search needs
+
+array-read-lent : tie.Need-array-read-lent
+array-read-lent c = search needs
+
+returns : tie.Need-returns
+returns c = search needs
+
+array-borrow-prefix-counters : tie.Need-array-borrow-prefix-counters
+array-borrow-prefix-counters c =
+    let all : length (c .before .before .before .before .args .desk .counters) ≡ 577 = search needs in omega arith
+
+slice-aggregate-judged : tie.Need-slice-aggregate-judged
+slice-aggregate-judged c =
+    let all : length (c .before .before .before .before .before .args .desk .counters) ≡ 577 = search needs in simp length-take (omega arith)
+
+judged-requires : tie.Need-judged-requires
+judged-requires c κs = search needs
+
+called-requires : tie.Need-called-requires
+called-requires c κs = search needs
+
+returns-2 : tie.Need-returns-2
+returns-2 c = search needs
+
+pub call-spec : {M : Type 1} → statement M
+call-spec =
+    tie.close
+    (tie.spec operands-requires array-read-lent returns array-borrow-prefix-counters slice-aggregate-judged judged-requires called-requires returns-2)
