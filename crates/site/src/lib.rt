@@ -73,7 +73,7 @@ pub fn without_flow(site: Site, number: u8) -> Site
     ensures { λ r. ⌜ r ≡ withoutFlow site number ⌝ }
 {
     let n = number as usize;
-    if 64 <= n {
+    if 63 < n {
         return site;
     }
     let mut next = site;
@@ -89,7 +89,7 @@ pub fn is_live(site: Site, number: u8) -> bool
     ensures { λ r. ⌜ r ≡ live site number ⌝ }
 {
     let n = number as usize;
-    if 64 <= n {
+    if 63 < n {
         return false;
     }
     site.states[n] == 1

@@ -91,18 +91,18 @@ pub fn first_unfit(site: Site, flow: Flow) -> u8
     let gaps = gaps_judged(site);
     let parents = site.parents;
     let loads = loads_of(site);
-    let mut node = flow.entry;
+    let mut link = flow.entry;
     loop {
-        let parent = parent_of(&parents, node);
-        if node <= parent {
+        let parent = parent_of(&parents, link);
+        if link <= parent {
             return 0;
         }
-        let i = (node - 1) as usize;
-        let width = flow.rate as u32 * value_of(&gaps, node) as u32;
+        let i = (link - 1) as usize;
+        let width = flow.rate as u32 * value_of(&gaps, link) as u32;
         if (site.capacities[i] as u32) < loads[i] + width {
-            return node;
+            return link;
         }
-        node = parent;
+        link = parent;
     }
 }
 

@@ -14,27 +14,33 @@ use Rattle.site.proofs.reservations.first_unfit.Statement.{statement}
 use Rattle.site.proofs.reservations.first_unfit.Tie as tie
 
 abbrev Inv-loop : tie.InvT-loop
-Inv-loop flow site gaps parents loads node₀ node = (node ≤ flow .entry) × (firstUnfit site (flow .rate) (route (site .parents) node) ≡ firstUnfit site (flow .rate) (route (site .parents) (flow .entry)))
+Inv-loop flow site gaps parents loads link₀ link = (link ≤ flow .entry) × (firstUnfit site (flow .rate) (route (site .parents) link) ≡ firstUnfit site (flow .rate) (route (site .parents) (flow .entry)))
 
 abbrev μ-loop : tie.MeasureT-loop
-μ-loop flow site gaps parents loads node₀ node = node
+μ-loop flow site gaps parents loads link₀ link = link
 
-width : (c : tie.After-value-of Inv-loop μ-loop) → c .before .before .before .before .before .before .before .before .before .before .args .flow .rate * c .value-of .result ≤ 16711425
-width c = let f : Fits w8 (c .before .before .before .before .before .before .before .before .before .before .args .flow .rate) = search needs in width-le _ _ (omega (arith, f .fits)) (omega arith)
+abbrev start : tie.After-value-of Inv-loop μ-loop → tie.Start Inv-loop μ-loop
+start c = c .before .before .before .before .before .before .before .before .before .before
 
-within : (c : tie.After-value-of Inv-loop μ-loop) → c .before .before .before .before .before .before .loop .node - 1 < 63
+abbrev walk : tie.After-value-of Inv-loop μ-loop → tie.At-loop Inv-loop μ-loop
+walk c = c .before .before .before .before .before .before
+
+width : (c : tie.After-value-of Inv-loop μ-loop) → start c .args .flow .rate * c .value-of .result ≤ 16711425
+width c = let f : Fits w8 (start c .args .flow .rate) = search needs in width-le _ _ (omega (arith, f .fits)) (omega arith)
+
+within : (c : tie.After-value-of Inv-loop μ-loop) → walk c .loop .link - 1 < 63
 within c =
-    let long : length (c .before .before .before .before .before .before .before .before .before .before .args .t1 .parents) ≡ 63 = search needs in
-    omega (arith, up-within (c .before .before .before .before .before .before .before .before .before .before .args .t1 .parents) (c .before .before .before .before .before .before .loop .node) (omega (arith, c .before .before .before .before .parent-of .ensures)))
+    let long : length (start c .args .t1 .parents) ≡ 63 = search needs in
+    omega (arith, up-within (start c .args .t1 .parents) (walk c .loop .link) (omega (arith, c .before .before .before .before .parent-of .ensures)))
 
 loaded : (c : tie.After-value-of Inv-loop μ-loop)
-    → getD (c .before .before .before .before .before .before .before .loads-of .result) (c .before .before .before .before .before .before .loop .node - 1) 0 ≡ load (c .before .before .before .before .before .before .before .before .before .before .args .t1) (c .before .before .before .before .before .before .loop .node - 1 + 1)
+    → getD (c .before .before .before .before .before .before .before .loads-of .result) (walk c .loop .link - 1) 0 ≡ load (start c .args .t1) (walk c .loop .link - 1 + 1)
 loaded c = c .before .before .before .before .before .before .before .loads-of .ensures .1 _ (within c)
 
-heavy : (c : tie.After-value-of Inv-loop μ-loop) → getD (c .before .before .before .before .before .before .before .loads-of .result) (c .before .before .before .before .before .before .loop .node - 1) 0 ≤ 1069531200
+heavy : (c : tie.After-value-of Inv-loop μ-loop) → getD (c .before .before .before .before .before .before .before .loads-of .result) (walk c .loop .link - 1) 0 ≤ 1069531200
 unfolding gapsJudged
 heavy c =
-    let site = c .before .before .before .before .before .before .before .before .before .before .args .t1 in
+    let site = start c .args .t1 in
     rw (loaded c) (load-le _ _ (λ i. let f : Fits w8 (getD (site .rates) i 0) = search needs in omega (arith, f .fits))
     (λ i. let f : Fits w16 (getD (site .gaps) i 0) = search needs in omega (arith, f .fits)))
 
@@ -84,7 +90,7 @@ element-copy-out-if2 : tie.Need-element-copy-out-if2 Inv-loop μ-loop
 element-copy-out-if2 c = within c
 
 cast-if2 : tie.Need-cast-if2 Inv-loop μ-loop
-cast-if2 c = let f : Fits w16 (getD (c .before .before .before .before .before .before .before .before .before .before .before .args .t1 .capacities) (c .before .before .before .before .before .before .before .loop .node - 1) 0) = search needs in omega (arith, f .fits)
+cast-if2 c = let f : Fits w16 (getD (c .before .before .before .before .before .before .before .before .before .before .before .args .t1 .capacities) (c .before .before .before .before .before .before .before .loop .link - 1) 0) = search needs in omega (arith, f .fits)
 
 mul-if2-2 : tie.Need-mul-if2-2 Inv-loop μ-loop
 mul-if2-2 c = omega (arith, within (c .before))
