@@ -1,11 +1,11 @@
--- What is proved over lists of admissions and releases of any length, by the promises of the functions themselves: check 14 and both round trips hold after every
--- list, a release leaves what a fresh plan would give, and the reader and admission judge alike. The modules named here hold the lemmas.
+-- What is proved over lists of admissions and releases of any length, by the promises of the functions themselves: every list has a run, check 14 and both round trips
+-- hold after each, a release leaves what a fresh plan would give, and the reader and admission judge alike. The modules named here hold the lemmas.
 pub mod Bytes
 pub mod Reach
 use Prim.Native.Nat.{ℕ, _≤_}
-use mathlib.Core.Path.{_≡_, sym, _∙_, ap}
+use mathlib.Core.Path.{_≡_, refl, _∙_}
 use mathlib.Core.Bool.{true}
-use mathlib.Core.List.{List, _++_}
+use mathlib.Core.List.{List, [], _∷_, _++_, map}
 use lib.ListN.{length}
 use native.Mathlib.Omega.{arith}
 use Rattle.pinwheel.specs.Outcome.{accepted, refused}
@@ -17,12 +17,26 @@ use Rattle.limits.proofs.Laws.Flows.{live-fits}
 use Rattle.plan.proofs.Laws as plan
 use Rattle.reader.specs.Read.{readOf}
 use Rattle.writer.specs.Write.{flowBytes, flowIfLive, planBytes}
-use Rattle.admission.specs.Calls.{Ruling}
+use Rattle.admission.specs.Calls.{Ruling, admitOf, releaseOf}
 use Rattle.admission.proofs.Laws.{admit-accepted, admit-refused, release-accepted, release-refused, admitted-passes}
 use Rattle.guarantee.specs.Runs.{Call, admit, release, State, Promise, Log, Run, none, then, admissions}
 use Rattle.guarantee.specs.Words.{Exchanged, bytesBefore, bytesBehind, nodesAlone}
 use Rattle.guarantee.proofs.Laws.Bytes.{plan-parts, plan-without}
-use Rattle.guarantee.proofs.Laws.Reach.{flowsBelow, below-none, below-all, below-passes, reach}
+use Rattle.guarantee.proofs.Laws.Reach.{below-none, below-all, below-passes, reach}
+
+-- Every call has an answer and leaves a state, and so every list of calls, newest first, has a run.
+answered : (c : Call) (σ : State) → (a : Ruling) × (σ′ : State) × Promise c σ a σ′
+unfolding Promise
+answered (admit f) σ = let w = admitOf (σ .site) (σ .counters) f in (w .0, record { site = w .1; counters = w .2 }, refl)
+answered (release n) σ = let w = releaseOf (σ .site) (σ .counters) n in (w .0, record { site = w .1; counters = w .2 }, refl)
+
+pub every-list : (σ₀ : State) (cs : List Call) → (l : Log) × (σ : State) × Run σ₀ l σ × (map (λ (e : Call × Ruling). e .0) l ≡ cs)
+every-list σ₀ [] = ([], σ₀, none, refl)
+every-list σ₀ (c ∷ cs) = go (every-list σ₀ cs)
+  where
+    go : (l : Log) × (σ : State) × Run σ₀ l σ × (map (λ (e : Call × Ruling). e .0) l ≡ cs)
+        → (l : Log) × (σ : State) × Run σ₀ l σ × (map (λ (e : Call × Ruling). e .0) l ≡ c ∷ cs)
+    go (l, σ, r, e) = let w = answered c σ in ((c, w .0) ∷ l, w .1, then c (w .0) (w .1) r (w .2), rw e)
 
 -- One call, accepted or refused.
 call-passes : (σ σ′ : State) (c : Call) (a : Ruling) → Promise c σ a σ′ → passesOf (σ .site) ≡ true → passesOf (σ′ .site) ≡ true

@@ -1,7 +1,7 @@
 -- What is proved of the lookup of a slot's sender: which child it gives, that there is never a second one, and which check refuses it. The module named here holds a
 -- law for each answer of the code.
 pub mod Answers
-use Prim.Native.Nat.{ℕ, zero, suc, _≤_, _<_}
+use Prim.Native.Nat.{ℕ, _≤_, _<_}
 use mathlib.Core.Path.{_≡_, refl, sym, _∙_}
 use mathlib.Core.Bool.{Bool, true, false, not, false≢true, and-eq-true-iff}
 use mathlib.Core.Logic.{_⊎_, inl, inr, ⊎-elim, _↔_}
@@ -9,16 +9,14 @@ use lib.Dec.{eqb, ltb}
 use borrow.Author.Tests.{lt-ltb, eq-eqb, eqb-true, ltb-true, ltb-false, not-false}
 use native.Mathlib.Decide.{ℕ-discrete}
 use native.Mathlib.Omega.{arith}
-use Rattle.pinwheel.specs.Outcome.{Outcome, accepted, refused, none, Ruled}
-use Rattle.pinwheel.specs.Search.{last}
+use Rattle.pinwheel.specs.Outcome.{Outcome, accepted, none, Ruled}
 use Rattle.pinwheel.proofs.Laws.Outcomes.{past, ruled-test, ruled-end}
-use Rattle.pinwheel.proofs.Laws.Search.{lt-or-le, last-le, last-passes, last-above, last-is}
+use Rattle.pinwheel.proofs.Laws.Search.{lt-or-le, last-passes, last-above, last-is}
 use Rattle.site.specs.declared.Site.{Site}
 use Rattle.site.specs.Sites.{used, ofLink}
-use Rattle.schedule.specs.Schedule.{linkSends}
 use Rattle.schedule.proofs.Laws.Slots.{sends-in}
 use Rattle.limits.specs.Check.{passesOf}
-use Rattle.limits.specs.Words.{Sound, siteChecks}
+use Rattle.limits.specs.Words.{Sound}
 use Rattle.limits.proofs.Laws.{passes-sound, siblings-apart}
 use Rattle.limits.proofs.Laws.Check.{passes-few}
 use Rattle.limits.proofs.Laws.Tests.{not-when}

@@ -9,7 +9,7 @@ use borrow.Author.Tests.{eqb-true}
 use native.Mathlib.Omega.{arith}
 use Rattle.site.specs.declared.Site.{Site}
 use Rattle.site.specs.Sites.{ofLink, live, withFlow, withoutFlow}
-use Rattle.site.specs.Tree.{route, has}
+use Rattle.site.specs.Tree.{has}
 use Rattle.site.specs.Reservations.{gapsJudged, routeOf, widthAt, widthOn, load}
 use Rattle.site.specs.Words.{RoomAlong}
 use Rattle.site.proofs.Laws.Tree.{has-when, route-within}

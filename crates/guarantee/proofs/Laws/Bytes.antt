@@ -1,9 +1,8 @@
 -- The plan bytes of a site without one of its flows are those of the site without that FLOW.
 use Prim.Native.Nat.{ℕ, _+_, _-_, _≤_, _<_}
-use mathlib.Core.Path.{_≡_, refl, sym, _∙_, ap}
-use mathlib.Core.Bool.{true, false}
-use mathlib.Core.List.{List, [], _∷_, _++_, append-assoc}
-use lib.ListN.{length, getD}
+use mathlib.Core.Path.{_≡_, sym, _∙_, ap}
+use mathlib.Core.List.{List, [], _++_, append-assoc}
+use lib.ListN.{length}
 use lib.Seq.{getD-set-other}
 use native.Mathlib.Omega.{arith}
 use Rattle.site.specs.declared.Site.{Site}

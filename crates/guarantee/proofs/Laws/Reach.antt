@@ -3,24 +3,21 @@ use Prim.Native.Nat.{ℕ, zero, suc, _+_, _-_, _≤_, _<_}
 use mathlib.Core.Path.{_≡_, refl, sym, _∙_, ap}
 use mathlib.Core.Bool.{Bool, true, false, cond}
 use mathlib.Core.List.{List, _∷_}
-use mathlib.Core.Logic.{⊎-elim}
 use lib.ListN.{length, getD, set, List·getD-eq-default}
 use lib.Seq.{set-set, set-getD}
 use native.Mathlib.Numerals.{add-one}
 use native.Mathlib.Omega.{arith}
 use Rattle.pinwheel.specs.Outcome.{accepted}
-use Rattle.pinwheel.proofs.Laws.Search.{lt-or-le}
 use Rattle.site.specs.declared.Site.{Site}
 use Rattle.site.specs.Sites.{live, withoutFlow}
 use Rattle.limits.specs.Check.{flowOf, passesOf}
-use Rattle.limits.specs.Words.{Shape, Sound}
+use Rattle.limits.specs.Words.{Shape}
 use Rattle.limits.proofs.Laws.{passes-sound, flow-taken}
-use Rattle.limits.proofs.Laws.Flows.{live-few, without-none}
-use Rattle.plan.proofs.Laws.Lists.{upto, upto-long, upto-below, upto-above, upto-none, upto-more, upto-all}
+use Rattle.limits.proofs.Laws.Flows.{without-none}
+use Rattle.plan.proofs.Laws.Lists.{upto, upto-below, upto-above, upto-none, upto-more, upto-all}
 use Rattle.counters.specs.Blocks.{withCells, zeros}
 use Rattle.counters.proofs.Laws.{length-with, length-zeros}
-use Rattle.admission.specs.Calls.{Ruling, admitOf, releaseRuling}
-use Rattle.admission.specs.Words.{Releasable}
+use Rattle.admission.specs.Calls.{admitOf}
 use Rattle.admission.proofs.Laws.{releases-when, released-again}
 use Rattle.guarantee.specs.Runs.{admit, State, Promise, Run, none, then, admissions}
 use Rattle.guarantee.specs.Words.{nodesAlone}

@@ -1,10 +1,10 @@
 -- One law for each answer of the lookup, and for each turn of its search from the last link down.
-use Prim.Native.Nat.{ℕ, zero, suc, _+_, _-_, _%_, _≤_, _<_}
-use mathlib.Core.Path.{_≡_, refl, sym, _∙_}
-use mathlib.Core.Bool.{Bool, true, false, not, _&&_}
+use Prim.Native.Nat.{ℕ, _-_, _≤_, _<_}
+use mathlib.Core.Path.{_≡_, sym, _∙_}
+use mathlib.Core.Bool.{Bool, true, false, not}
 use lib.Dec.{eqb}
 use lib.ListN.{getD}
-use borrow.Author.Tests.{lt-ltb, le-ltb, le-leb, eq-eqb, ne-eqb, not-true, not-false}
+use borrow.Author.Tests.{lt-ltb, le-ltb, le-leb, eq-eqb, ne-eqb}
 use native.Mathlib.Nat.{mod-zero}
 use native.Mathlib.Omega.{arith}
 use Rattle.pinwheel.specs.Outcome.{accepted, refused}
@@ -12,7 +12,7 @@ use Rattle.pinwheel.specs.Search.{last}
 use Rattle.pinwheel.specs.Rule.{sends}
 use Rattle.pinwheel.proofs.Laws.Search.{last-hit, last-miss}
 use Rattle.site.specs.declared.Site.{Site}
-use Rattle.site.specs.Sites.{used, ofLink}
+use Rattle.site.specs.Sites.{used}
 use Rattle.site.proofs.Laws.Tree.{link-in}
 use Rattle.schedule.specs.Schedule.{linkSends}
 use Rattle.limits.specs.Check.{passesOf}

@@ -1,10 +1,5 @@
 -- Right because the sum is that of the judged gaps from the node up.
 use borrow.Author.Needs.{needs}
-use mathlib.Core.Path.{_≡_, _∙_, ap}
-use mathlib.Core.List.{List}
-use Prim.Native.Nat.{ℕ}
-use Rattle.site.specs.Tree.{route}
-use Rattle.site.specs.Reservations.{along}
 use Rattle.site.proofs.reservations.gaps_along.Statement.{statement}
 use Rattle.site.proofs.reservations.gaps_along.Tie as tie
 
