@@ -8,7 +8,7 @@ use site::Flow;
 use site::Site;
 
 // A site needs 576 counters: with one more, a list that is too long can be lent too.
-struct Desk {
+struct Live {
     site: Site,
     counters: [u32; 577],
 }
@@ -133,15 +133,15 @@ fn print_verdict(verdict: Verdict) {
 }
 
 // Prints what a call answered and changed; answers the site and the counters that it left.
-fn called(desk: Desk, judged: Judged, counters: [u32; 577]) -> Desk {
+fn called(live: Live, judged: Judged, counters: [u32; 577]) -> Live {
     let verdict = judged.verdict;
     let site = judged.site;
-    let counters_before = desk.counters;
+    let counters_before = live.counters;
     print_verdict(verdict);
-    print_site(desk.site, site);
+    print_site(live.site, site);
     print_counters(counters_before, counters);
     io::write_all(1, b"\n");
-    Desk { site, counters }
+    Live { site, counters }
 }
 
 // The release that a line with `R` asks for, or else the admission, on the counters that are lent.
@@ -160,15 +160,15 @@ fn judged(line: &[u8], site: Site, counters: &mut [u32], numbers: [usize; 5]) ->
 }
 
 // Makes the call of a line with `A` or `R`, whose first operand says how many counters are lent.
-fn call(line: &[u8], desk: Desk) -> Desk {
+fn call(line: &[u8], live: Live) -> Live {
     let numbers = operands(line);
     let lent = numbers[0];
     if 577 < lent {
-        return desk;
+        return live;
     }
-    let mut counters = desk.counters;
-    let answer = judged(line, desk.site, &mut counters[..lent], numbers);
-    called(desk, answer, counters)
+    let mut counters = live.counters;
+    let answer = judged(line, live.site, &mut counters[..lent], numbers);
+    called(live, answer, counters)
 }
 
 fn look_up(line: &[u8], site: Site) {
@@ -183,48 +183,48 @@ fn look_up(line: &[u8], site: Site) {
     io::write_all(1, b"\n");
 }
 
-fn with_site(desk: Desk, site: Site) -> Desk {
-    let counters = desk.counters;
-    Desk { site, counters }
+fn with_site(live: Live, site: Site) -> Live {
+    let counters = live.counters;
+    Live { site, counters }
 }
 
-fn with_counters(desk: Desk, counters: [u32; 577]) -> Desk {
-    let site = desk.site;
-    Desk { site, counters }
+fn with_counters(live: Live, counters: [u32; 577]) -> Live {
+    let site = live.site;
+    Live { site, counters }
 }
 
 // Answers the site and the counters from here on.
-fn show_line(line: &[u8], desk: Desk) -> Desk {
+fn show_line(line: &[u8], live: Live) -> Live {
     if test_text::echo(line) {
-        return desk;
+        return live;
     }
     if line.len() == 0 {
-        return desk;
+        return live;
     }
     let mark = line[0];
     match mark {
-        b'P' => with_site(desk, test_text::read_site(line)),
-        b'X' => with_site(desk, test_text::altered(desk.site, line, 0)),
-        b'C' => with_counters(desk, given(line)),
-        b'A' | b'R' => call(line, desk),
+        b'P' => with_site(live, test_text::read_site(line)),
+        b'X' => with_site(live, test_text::altered(live.site, line, 0)),
+        b'C' => with_counters(live, given(line)),
+        b'A' | b'R' => call(line, live),
         b'L' => {
-            look_up(line, desk.site);
-            desk
+            look_up(line, live.site);
+            live
         }
-        _ => desk,
+        _ => live,
     }
 }
 
 fn show_lines(text: &[u8]) {
-    let mut desk = Desk {
+    let mut live = Live {
         site: site::empty(),
         counters: [0; 577],
     };
     let mut at = 0;
     while at < text.len() {
         let end = test_text::line_end(text, at);
-        let next = show_line(&text[at..end], desk);
-        desk = next;
+        let next = show_line(&text[at..end], live);
+        live = next;
         at = end + 1;
     }
 }

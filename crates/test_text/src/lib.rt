@@ -242,9 +242,7 @@ fn changed(site: Site, field: usize, index: usize, value: usize) -> Site {
 }
 
 // The site with all the changes of a line made in turn; the last one is passed over if it is not complete.
-pub fn altered(site: Site, line: &[u8], start: usize) -> Site
-    requires { ⌜ start ≤ length (now line) ⌝ }
-{
+pub fn altered(site: Site, line: &[u8], start: usize) -> Site {
     let mut next = site;
     let mut at = start;
     while at < line.len() {

@@ -1,4 +1,4 @@
--- Right because the part that is lent has as many counters as the operand says, which the test says are there: a desk has 577.
+-- Right because the part that is lent has as many counters as the operand says, which the test says are there: the live site has 577.
 use borrow.Author.Needs.{needs}
 use mathlib.Core.Path.{_≡_}
 use lib.ListN.{length, length-take}
@@ -17,11 +17,11 @@ returns c = search needs
 
 array-borrow-prefix-counters : tie.Need-array-borrow-prefix-counters
 array-borrow-prefix-counters c =
-    let all : length (c .before .before .before .before .args .desk .counters) ≡ 577 = search needs in omega arith
+    let all : length (c .before .before .before .before .args .live .counters) ≡ 577 = search needs in omega arith
 
 slice-aggregate-judged : tie.Need-slice-aggregate-judged
 slice-aggregate-judged c =
-    let all : length (c .before .before .before .before .before .args .desk .counters) ≡ 577 = search needs in simp length-take (omega arith)
+    let all : length (c .before .before .before .before .before .args .live .counters) ≡ 577 = search needs in simp length-take (omega arith)
 
 judged-requires : tie.Need-judged-requires
 judged-requires c κs = search needs

@@ -6,10 +6,10 @@ use Rattle.test_calls.proofs.show_lines.Statement.{statement}
 use Rattle.test_calls.proofs.show_lines.Tie as tie
 
 abbrev Inv-loop : tie.InvT-loop
-Inv-loop text desk₀ at₀ desk at = Unit
+Inv-loop text live₀ at₀ live at = Unit
 
 abbrev μ-loop : tie.MeasureT-loop
-μ-loop text desk₀ at₀ desk at = length text - at
+μ-loop text live₀ at₀ live at = length text - at
 
 empty-requires : tie.Need-empty-requires Inv-loop μ-loop
 empty-requires c κs = search needs
