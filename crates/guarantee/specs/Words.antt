@@ -6,6 +6,7 @@ use mathlib.Core.List.{List, [], _∷_, _++_}
 use lib.ListN.{replicate}
 use Rattle.pinwheel.specs.Outcome.{accepted}
 use Rattle.site.specs.declared.Site.{Site}
+use Rattle.site.specs.Sites.{withFlows}
 use Rattle.limits.specs.Check.{passesOf}
 use Rattle.format.specs.Words.{Bytes}
 use Rattle.reader.specs.Read.{readOf}
@@ -26,15 +27,4 @@ bytesBehind s n = joined (flowIfLive s) (63 - n) (n + 1) ++ (255 ∷ [])
 
 -- The nodes of a site, with no flow.
 abbrev pub nodesAlone : Site → Site
-nodesAlone s = record {
-  links = s .links;
-  parents = s .parents;
-  capacities = s .capacities;
-  gaps = s .gaps;
-  offsets = s .offsets;
-  periods = s .periods;
-  states = replicate 64 0;
-  entries = replicate 64 0;
-  rates = replicate 64 0;
-  deadlines = replicate 64 0;
-}
+nodesAlone s = withFlows s (replicate 64 0) (replicate 64 0) (replicate 64 0) (replicate 64 0)

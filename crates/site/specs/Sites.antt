@@ -35,20 +35,25 @@ ofLink xs (suc i) = getD xs i 0
 unfoldable pub live : Site → ℕ → Bool
 live s n = eqb (getD (s .states) n 0) 1
 
--- The site with these fields at one flow number.
-abbrev pub withFields : Site → ℕ → ℕ → ℕ → ℕ → ℕ → Site
-withFields s n state entry rate deadline = record {
+-- The site with other lists of flows.
+abbrev pub withFlows : Site → List ℕ → List ℕ → List ℕ → List ℕ → Site
+withFlows s states entries rates deadlines = record {
   links = s .links;
   parents = s .parents;
   capacities = s .capacities;
   gaps = s .gaps;
   offsets = s .offsets;
   periods = s .periods;
-  states = set (s .states) n state;
-  entries = set (s .entries) n entry;
-  rates = set (s .rates) n rate;
-  deadlines = set (s .deadlines) n deadline;
+  states = states;
+  entries = entries;
+  rates = rates;
+  deadlines = deadlines;
 }
+
+-- The site with these fields at one flow number.
+abbrev pub withFields : Site → ℕ → ℕ → ℕ → ℕ → ℕ → Site
+withFields s n state entry rate deadline =
+    withFlows s (set (s .states) n state) (set (s .entries) n entry) (set (s .rates) n rate) (set (s .deadlines) n deadline)
 
 -- The site with a live flow more.
 unfoldable pub withFlow : Site → Flow → Site

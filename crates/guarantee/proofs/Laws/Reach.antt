@@ -3,18 +3,18 @@ use Prim.Native.Nat.{ℕ, zero, suc, _+_, _-_, _≤_, _<_}
 use mathlib.Core.Path.{_≡_, refl, sym, _∙_, ap}
 use mathlib.Core.Bool.{Bool, true, false, cond}
 use mathlib.Core.List.{List, _∷_}
-use lib.ListN.{length, getD, set, List·getD-eq-default}
+use lib.ListN.{length, getD, set}
 use lib.Seq.{set-set, set-getD}
 use native.Mathlib.Numerals.{add-one}
 use native.Mathlib.Omega.{arith}
 use Rattle.pinwheel.specs.Outcome.{accepted}
 use Rattle.site.specs.declared.Site.{Site}
-use Rattle.site.specs.Sites.{live, withoutFlow}
+use Rattle.site.specs.Sites.{live, withFlows, withoutFlow}
 use Rattle.limits.specs.Check.{flowOf, passesOf}
 use Rattle.limits.specs.Words.{Shape}
 use Rattle.limits.proofs.Laws.{passes-sound, flow-taken}
 use Rattle.limits.proofs.Laws.Flows.{without-none}
-use Rattle.plan.proofs.Laws.Lists.{upto, upto-below, upto-above, upto-none, upto-more, upto-all}
+use Rattle.plan.proofs.Laws.Lists.{upto, upto-below, upto-above, upto-zeros, upto-more, upto-full}
 use Rattle.counters.specs.Blocks.{withCells, zeros}
 use Rattle.counters.proofs.Laws.{length-with, length-zeros}
 use Rattle.admission.specs.Calls.{admitOf}
@@ -30,18 +30,7 @@ upto-less xs k l =
 
 -- The site with the flows of numbers below k.
 unfoldable pub flowsBelow : ℕ → Site → Site
-flowsBelow k s = record {
-  links = s .links;
-  parents = s .parents;
-  capacities = s .capacities;
-  gaps = s .gaps;
-  offsets = s .offsets;
-  periods = s .periods;
-  states = upto k (s .states);
-  entries = upto k (s .entries);
-  rates = upto k (s .rates);
-  deadlines = upto k (s .deadlines);
-}
+flowsBelow k s = withFlows s (upto k (s .states)) (upto k (s .entries)) (upto k (s .rates)) (upto k (s .deadlines))
 
 module _ (s : Site) (long : Shape s) where
   below-less : (k : ℕ) → k < 64 → withoutFlow (flowsBelow (k + 1) s) k ≡ flowsBelow k s
@@ -57,14 +46,22 @@ module _ (s : Site) (long : Shape s) where
   pub below-none : flowsBelow 0 s ≡ nodesAlone s
   unfolding flowsBelow
   below-none =
-      rw (upto-none (s .states), upto-none (s .entries), upto-none (s .rates), upto-none (s .deadlines), long .states, long .entries, long .rates, long .deadlines)
+      rw (
+        upto-zeros (s .states) 64 (long .states),
+        upto-zeros (s .entries) 64 (long .entries),
+        upto-zeros (s .rates) 64 (long .rates),
+        upto-zeros (s .deadlines) 64 (long .deadlines),
+      )
 
   pub below-all : flowsBelow 64 s ≡ s
   unfolding flowsBelow
-  below-all = rw (whole (s .states) (long .states), whole (s .entries) (long .entries), whole (s .rates) (long .rates), whole (s .deadlines) (long .deadlines))
-    where
-      whole : (xs : List ℕ) → length xs ≡ 64 → upto 64 xs ≡ xs
-      whole xs e = upto-all xs 64 (omega arith) (λ i l. List·getD-eq-default xs 0 (omega arith))
+  below-all =
+      rw (
+        upto-full (s .states) 64 (long .states),
+        upto-full (s .entries) 64 (long .entries),
+        upto-full (s .rates) 64 (long .rates),
+        upto-full (s .deadlines) 64 (long .deadlines),
+      )
 
   -- At its own number such a site has the flow that the whole site has.
   below-live : (k : ℕ) → k < 64 → live (flowsBelow (k + 1) s) k ≡ live s k

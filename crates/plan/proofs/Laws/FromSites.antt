@@ -5,7 +5,7 @@ use mathlib.Core.List.{List, _++_, append-assoc}
 use mathlib.Core.Logic.{_⊎_, inl, inr, ⊎-elim}
 use mathlib.Core.Bool.{true, cond}
 use lib.Dec.{eqb}
-use lib.ListN.{length, getD, take, drop, take-append-drop, length-append, set, replicate, length-drop, List·getD-eq-default}
+use lib.ListN.{length, getD, take, drop, take-append-drop, length-append, set, replicate, length-drop}
 use lib.Seq.{drop-at}
 use borrow.Author.Tests.{le-ltb, lt-leb, ne-eqb, eqb-true}
 use native.Mathlib.Nat.{eq-or-lt-of-le}
@@ -21,7 +21,7 @@ use Rattle.limits.specs.Check.{nodeOf, flowOf}
 use Rattle.writer.specs.Write.{nodeBytes, flowBytes, flowIfLive, joined, commandBytes}
 use Rattle.limits.specs.Words.{NodeGood, IdleAt, LiveAt, Formed}
 use Rattle.plan.proofs.Laws.Drafts.{NextOf}
-use Rattle.plan.proofs.Laws.Lists.{upto, upto-long, upto-below, upto-none, upto-more, upto-skip, upto-all}
+use Rattle.plan.proofs.Laws.Lists.{upto, upto-long, upto-below, upto-zeros, upto-more, upto-skip, upto-all, upto-full}
 use Rattle.format.proofs.Laws.{number-bytes, byte-at, head-at, left-at, left-long}
 use Rattle.limits.proofs.Laws.Flows.{live-few}
 use Rattle.limits.proofs.Laws.Forms.{node-good, flow-good, good-same, good-wider}
@@ -53,9 +53,6 @@ part s k n = record {
 -- What has been read of a site after its first k nodes and its flows with numbers below n.
 abbrev draft : Site → ℕ → ℕ → ℕ → Draft
 draft s k n next = record { site = part s k n; next = next }
-
-none-of : (xs : List ℕ) (n : ℕ) → length xs ≡ n → upto 0 xs ≡ replicate n 0
-none-of xs n e = upto-none xs ∙ ap (λ (m : ℕ). replicate m 0) e
 
 -- The parents of the first k nodes are those of the site.
 up-same : (p : List ℕ) (k : ℕ) → k ≤ length p → (m : ℕ) → m ≤ k → up (upto k p) m ≡ up p m
@@ -106,13 +103,13 @@ module _ (s : Site) (g : Formed s) where
   part-none : part s 0 0 ≡ emptySite
   unfolding part
   part-none = rw (
-    none-of (s .parents) 63 (g .shape .parents),
-    none-of (s .capacities) 63 (g .shape .capacities),
-    none-of (s .gaps) 63 (g .shape .gaps),
-    none-of (s .states) 64 (g .shape .states),
-    none-of (s .entries) 64 (g .shape .entries),
-    none-of (s .rates) 64 (g .shape .rates),
-    none-of (s .deadlines) 64 (g .shape .deadlines),
+    upto-zeros (s .parents) 63 (g .shape .parents),
+    upto-zeros (s .capacities) 63 (g .shape .capacities),
+    upto-zeros (s .gaps) 63 (g .shape .gaps),
+    upto-zeros (s .states) 64 (g .shape .states),
+    upto-zeros (s .entries) 64 (g .shape .entries),
+    upto-zeros (s .rates) 64 (g .shape .rates),
+    upto-zeros (s .deadlines) 64 (g .shape .deadlines),
   )
 
   -- All of it is the site without its schedule.
@@ -122,14 +119,11 @@ module _ (s : Site) (g : Formed s) where
     upto-all (s .parents) (s .links) (omega (arith, g .few, g .shape .parents)) (λ i l. g .spare i l .parent),
     upto-all (s .capacities) (s .links) (omega (arith, g .few, g .shape .capacities)) (λ i l. g .spare i l .capacity),
     upto-all (s .gaps) (s .links) (omega (arith, g .few, g .shape .gaps)) (λ i l. g .spare i l .gap),
-    all (s .states) (g .shape .states),
-    all (s .entries) (g .shape .entries),
-    all (s .rates) (g .shape .rates),
-    all (s .deadlines) (g .shape .deadlines),
+    upto-full (s .states) 64 (g .shape .states),
+    upto-full (s .entries) 64 (g .shape .entries),
+    upto-full (s .rates) 64 (g .shape .rates),
+    upto-full (s .deadlines) 64 (g .shape .deadlines),
   )
-    where
-      all : (xs : List ℕ) → length xs ≡ 64 → upto 64 xs ≡ xs
-      all xs e = upto-all xs 64 (omega arith) (λ i l. List·getD-eq-default xs 0 {n = i} (omega arith))
 
   -- One node more, one flow more.
   node-put : (k : ℕ) → k < s .links → nodeAdded (draft s k 0 0) (nodeOf s k) ≡ draft s (k + 1) 0 0
