@@ -25,7 +25,8 @@ use Rattle.limits.specs.Limits.{flowLimits}
 use Rattle.limits.specs.Check.{flowOf, passesOf, callFault}
 use Rattle.limits.proofs.Laws.{passes-sound, call-when, call-first, flow-first, flow-added, flow-back}
 use Rattle.limits.proofs.Laws.Forms.{flow-good}
-use Rattle.counters.specs.Blocks.{withCells, zeros}
+use Rattle.counters.specs.Blocks.{cellsOf, withCells, zeros}
+use Rattle.counters.proofs.Laws.{length-with, block-same, block-other, length-zeros}
 use Rattle.admission.specs.Calls.{Ruling, change, unfitLink, admitRuling, admitOf, releaseRuling, releaseOf}
 use Rattle.admission.specs.Words.{links, Admissible, Releasable, admissionChecks, releaseChecks}
 use Rattle.admission.proofs.Laws.Answers.{admit-passes, release-passes}
@@ -152,6 +153,18 @@ module _ (s t : Site) (counters ds : List ℕ) where
   pub release-refused : (n number place : ℕ) → (refused number place, t, ds) ≡ releaseOf s counters n → (t ≡ s) × (ds ≡ counters)
   unfolding releaseOf
   release-refused n number place e = change-refused _ _ s t _ counters ds number place e
+
+-- The counters that an accepted call leaves: there are 576 still, the nine cells of its number are 0, and those of every other number as they were.
+pub cells-after : (counters : List ℕ) (n : ℕ) → length counters ≡ 576 → n ≤ 63
+    → (length (withCells n (zeros 9) counters) ≡ 576) × (cellsOf n (withCells n (zeros 9) counters) ≡ zeros 9)
+    × ((k : ℕ) → (k ≡ n → ⊥) → cellsOf k (withCells n (zeros 9) counters) ≡ cellsOf k counters)
+unfolding cellsOf withCells
+cells-after counters n long few =
+    let fits : 9 * n + 9 ≤ length counters = omega arith in (
+      length-with 9 n counters fits (zeros 9) (length-zeros 9) ∙ long,
+      block-same 9 n counters fits (zeros 9) (length-zeros 9),
+      block-other 9 n counters fits (zeros 9) (length-zeros 9),
+    )
 
 -- A site that passes check 14 passes it after an accepted admission. (After a release it does by `flow-taken` of crate `limits`.)
 pub admitted-passes : (s : Site) (counters : List ℕ) (f : Flow) → Admissible s counters f → passesOf (withFlow s f) ≡ true

@@ -16,9 +16,8 @@ use Rattle.limits.proofs.Laws.{passes-sound, flow-taken}
 use Rattle.limits.proofs.Laws.Flows.{without-none}
 use Rattle.plan.proofs.Laws.Lists.{upto, upto-below, upto-above, upto-zeros, upto-more, upto-full}
 use Rattle.counters.specs.Blocks.{withCells, zeros}
-use Rattle.counters.proofs.Laws.{length-with, length-zeros}
 use Rattle.admission.specs.Calls.{admitOf}
-use Rattle.admission.proofs.Laws.{releases-when, released-again}
+use Rattle.admission.proofs.Laws.{releases-when, cells-after, released-again}
 use Rattle.guarantee.specs.Runs.{admit, State, Promise, Run, none, then, admissions}
 use Rattle.guarantee.specs.Words.{nodesAlone}
 
@@ -114,7 +113,7 @@ module _ (s : Site) (e : passesOf s ≡ true) where
   Reached cs k = (ds : List ℕ) × (length ds ≡ 576) × Run (at 0 cs) (admissions s k) (at k ds)
 
   pub reach : (cs : List ℕ) → length cs ≡ 576 → (k : ℕ) → k ≤ 64 → Reached cs k
-  unfolding admissions Promise withCells
+  unfolding admissions Promise
   reach cs counted zero l = (cs, counted, none)
   reach cs counted (suc k) l = go (live s k) refl (reach cs counted k (omega arith))
     where
@@ -122,7 +121,7 @@ module _ (s : Site) (e : passesOf s ≡ true) where
           → (ds : List ℕ) × (length ds ≡ 576) × Run (at 0 cs) (cond b ((admit (flowOf s k), accepted tt) ∷ admissions s k) (admissions s k)) (at (suc k) ds)
       go true t (ds, long, run) = (
         withCells k (zeros 9) ds,
-        length-with 9 k ds (omega arith) (zeros 9) (length-zeros 9) ∙ long,
+        cells-after ds k long (omega arith) .0,
         then (admit (flowOf s k)) (accepted tt) (at (suc k) (withCells k (zeros 9) ds)) run (rw (← add-one k) (sym (next-live k (omega arith) t ds long))),
       )
       go false t (ds, long, run) = (ds, long, rw (← add-one k, next-none k (omega arith) t) run)
