@@ -19,8 +19,8 @@ use Rattle.limits.specs.Words.{Formed}
 use Rattle.limits.proofs.Laws.Forms.{linkless-idle}
 
 pub empty-passes : passesOf emptySite ≡ true
-unfolding passesOf shaped formed firstIllNode firstIllFlow nodeOf flowOf illNode illFlow stands accepts judgeOf firstCrowded first crowded gapsUnder gapsFrom used reserved firstOver
-    firstLate late live same offsetsDealt periodsDealt listed entryDealt scheduled withSchedule
+unfolding passesOf shaped formed firstIllNode firstIllFlow nodeOf flowOf illNode illFlow stands accepts judgeOf firstCrowded first crowded gapsUnder gapsFrom
+    used reserved firstOver firstLate late live same offsetsDealt periodsDealt listed entryDealt scheduled withSchedule
 empty-passes = refl
 
 zeros : (xs : List ℕ) (n : ℕ) → length xs ≡ n → ((i : ℕ) → i < n → getD xs i 0 ≡ 0) → xs ≡ replicate n 0

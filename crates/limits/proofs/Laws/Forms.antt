@@ -21,7 +21,7 @@ use Rattle.site.proofs.Laws.Tree.{depth-same}
 use Rattle.limits.specs.declared.Node.{Node}
 use Rattle.limits.specs.Limits.{badNode, badFlow, nodeLimits, misplaced, flowLimits}
 use Rattle.limits.specs.Check.{shaped, nodeOf, flowOf, illNode, illFlow, firstIllNode, firstIllFlow, formed}
-use Rattle.limits.specs.Words.{Shape, NodeWithin, NodeGood, NoNode, FlowWithin, FlowGood, NoFlow, LiveFlow, IdleAt, LiveAt, Formed}
+use Rattle.limits.specs.Words.{Shape, NodeWithin, NodeGood, NoNode, FlowWithin, FlowGood, NoFlow, LiveFlow, IdleAt, Formed}
 use Rattle.limits.proofs.Laws.Tests.{neither, passed}
 
 -- 5 in words.
