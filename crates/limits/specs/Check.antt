@@ -1,7 +1,7 @@
 -- 01, check 14, as tests on the entries of a site: whether it is empty or what some plan reads to. That these tests say just
 -- this is the law `passes-when` of crate `plan`.
 use Prim.Native.Nat.{ℕ}
-use mathlib.Core.Bool.{Bool, true, false, not, cond, _&&_, _||_}
+use mathlib.Core.Bool.{Bool, true, false, not, cond, _&&_}
 use mathlib.Core.List.{List, [], _∷_}
 use lib.Dec.{eqb, ltb, leb}
 use lib.ListN.{length, getD}
@@ -28,30 +28,27 @@ nodeOf s i = record { parent = getD (s .parents) i 0; capacity = getD (s .capaci
 unfoldable pub flowOf : Site → ℕ → Flow
 flowOf s n = record { number = n; entry = getD (s .entries) n 0; rate = getD (s .rates) n 0; deadline = getD (s .deadlines) n 0 }
 
--- The entries at index i are not those of a node within its limits or, past the last link, not all 0.
-unfoldable pub illNode : Site → ℕ → Bool
-illNode s i =
-    cond (ltb i (s .links)) (not (eqb (nodeLimits (s .parents) i (nodeOf s i)) 0))
-    (not (eqb (getD (s .parents) i 0) 0 && (eqb (getD (s .capacities) i 0) 0 && eqb (getD (s .gaps) i 0) 0)))
+-- The node at index i of a site with so many links and these parents is not within its limits or, past the last link, not all 0.
+unfoldable pub illNode : ℕ → List ℕ → ℕ → Node → Bool
+illNode links parents i n =
+    cond (ltb i links) (not (eqb (nodeLimits parents i n) 0)) (not (eqb (n .parent) 0 && (eqb (n .capacity) 0 && eqb (n .gap) 0)))
 
--- The entries of number n are neither all 0 nor those of a live flow within its limits.
-unfoldable pub illFlow : Site → ℕ → Bool
-illFlow s n =
-    cond (eqb (getD (s .states) n 0) 0)
-    (not (eqb (getD (s .entries) n 0) 0 && (eqb (getD (s .rates) n 0) 0 && eqb (getD (s .deadlines) n 0) 0)))
-    (not (eqb (getD (s .states) n 0) 1 && eqb (flowLimits (s .links) 0 (flowOf s n)) 0))
+-- The flow of a number in this state, on a site with so many links, is neither all 0 nor live and within its limits.
+unfoldable pub illFlow : ℕ → ℕ → Flow → Bool
+illFlow links state f =
+    cond (eqb state 0) (not (eqb (f .entry) 0 && (eqb (f .rate) 0 && eqb (f .deadline) 0)))
+    (not (eqb state 1 && eqb (flowLimits links 0 f) 0))
 
--- One of the two is so at index n; there are 63 nodes and 64 flows.
-unfoldable pub illAt : Site → ℕ → Bool
-illAt s n = (ltb n 63 && illNode s n) || illFlow s n
+-- The first index with such a node, 63 where there is none; the first number with such a flow, 64 where there is none.
+unfoldable pub firstIllNode : Site → ℕ
+firstIllNode s = first (λ i. illNode (s .links) (s .parents) i (nodeOf s i)) 63 0
 
--- The first such index, 64 where there is none.
-unfoldable pub firstIll : Site → ℕ
-firstIll s = first (illAt s) 64 0
+unfoldable pub firstIllFlow : Site → ℕ
+firstIllFlow s = first (λ n. illFlow (s .links) (getD (s .states) n 0) (flowOf s n)) 64 0
 
 -- Nodes and flows are in form and limits, and what is not in use is 0.
 unfoldable pub formed : Site → Bool
-formed s = leb (s .links) 63 && leb 64 (firstIll s)
+formed s = leb (s .links) 63 && (leb 63 (firstIllNode s) && leb 64 (firstIllFlow s))
 
 -- Two lists are equal.
 unfoldable pub same : List ℕ → List ℕ → Bool

@@ -7,20 +7,14 @@ use site::Flow;
 use site::Site;
 ghost use mathlib.Core.Path.{_≡_};
 ghost use Prim.Native.Nat.{_<_};
-ghost use Rattle.limits.specs.Check.{illNode, illFlow, illAt, firstIll, same, stands, passesOf, callFault};
+ghost use Rattle.limits.specs.Check.{illNode, illFlow, firstIllNode, firstIllFlow, same, stands, passesOf, callFault};
 
-// The entries at index i are those of no node within its limits or, past the last link, not all 0.
-fn ill_node(site: Site, i: usize) -> bool
+// The node at index i of a site with so many links is not within its limits or, past the last link, not all 0.
+fn ill_node(links: u8, parents: [u8; 63], i: usize, node: Node) -> bool
     requires { ⌜ i < 63 ⌝ }
-    ensures { λ r. ⌜ r ≡ illNode site i ⌝ }
+    ensures { λ r. ⌜ r ≡ illNode links parents i node ⌝ }
 {
-    let node = Node {
-        parent: site.parents[i],
-        capacity: site.capacities[i],
-        gap: site.gaps[i],
-    };
-    if i < site.links as usize {
-        let parents = site.parents;
+    if i < links as usize {
         return node_limits(parents, i as u8, node) != 0;
     }
     if node.parent != 0 {
@@ -32,20 +26,12 @@ fn ill_node(site: Site, i: usize) -> bool
     node.gap != 0
 }
 
-// The entries of number n are neither those of a live flow within its limits nor all 0.
-fn ill_flow(site: Site, n: usize) -> bool
-    requires { ⌜ n < 64 ⌝ }
-    ensures { λ r. ⌜ r ≡ illFlow site n ⌝ }
+// The flow of a number in this state is neither all 0 nor live and within its limits.
+fn ill_flow(links: u8, state: u8, flow: Flow) -> bool
+    ensures { λ r. ⌜ r ≡ illFlow links state flow ⌝ }
 {
-    let flow = Flow {
-        number: n as u8,
-        entry: site.entries[n],
-        rate: site.rates[n],
-        deadline: site.deadlines[n],
-    };
-    let state = site.states[n];
     if state == 1 {
-        return flow_limits(site.links, 0, flow) != 0;
+        return flow_limits(links, 0, flow) != 0;
     }
     if state != 0 {
         return true;
@@ -59,27 +45,41 @@ fn ill_flow(site: Site, n: usize) -> bool
     flow.deadline != 0
 }
 
-// The node or the flow at index n is not in form; there are 63 nodes and 64 flows.
-fn ill_at(site: Site, n: usize) -> bool
-    requires { ⌜ n < 64 ⌝ }
-    ensures { λ r. ⌜ r ≡ illAt site n ⌝ }
+// The first index with a node that is not in form, or 63.
+fn first_ill_node(site: Site) -> usize
+    ensures { λ r. ⌜ r ≡ firstIllNode site ⌝ }
 {
-    if 63 <= n {
-        return ill_flow(site, n);
+    let links = site.links;
+    let parents = site.parents;
+    let mut i = 0;
+    while i < 63 {
+        let node = Node {
+            parent: site.parents[i],
+            capacity: site.capacities[i],
+            gap: site.gaps[i],
+        };
+        if ill_node(links, parents, i, node) {
+            return i;
+        }
+        i += 1;
     }
-    if ill_node(site, n) {
-        return true;
-    }
-    ill_flow(site, n)
+    i
 }
 
-// The first index with a node or a flow that is not in form, or 64.
-fn first_ill(site: Site) -> usize
-    ensures { λ r. ⌜ r ≡ firstIll site ⌝ }
+// The first number with a flow that is not in form, or 64.
+fn first_ill_flow(site: Site) -> usize
+    ensures { λ r. ⌜ r ≡ firstIllFlow site ⌝ }
 {
+    let links = site.links;
     let mut n = 0;
     while n < 64 {
-        if ill_at(site, n) {
+        let flow = Flow {
+            number: n as u8,
+            entry: site.entries[n],
+            rate: site.rates[n],
+            deadline: site.deadlines[n],
+        };
+        if ill_flow(links, site.states[n], flow) {
             return n;
         }
         n += 1;
@@ -129,7 +129,10 @@ pub fn passes(site: Site) -> bool
     if 63 < site.links {
         return false;
     }
-    if first_ill(site) < 64 {
+    if first_ill_node(site) < 63 {
+        return false;
+    }
+    if first_ill_flow(site) < 64 {
         return false;
     }
     judged_as_it_is(site)

@@ -18,11 +18,11 @@ use Rattle.format.specs.Bytes.{numberAt, bytesOf}
 use Rattle.reader.specs.Read.{nodeAt, flowAt, nodeFault, flowFault, fault}
 use Rattle.reader.specs.Read.{withNode, nodeAdded, flowAdded, after, endOf, decodeFrom, decode, judgeForm, readOf}
 use Rattle.writer.specs.Write.{linkBytes, joined, scheduleBytes, written, siteFault, writtenIf}
-use Rattle.limits.specs.Check.{shaped, nodeOf, flowOf, illNode, illFlow, illAt, firstIll, formed, same, accepts, stands, passesOf, callFault}
+use Rattle.limits.specs.Check.{shaped, nodeOf, flowOf, illNode, illFlow, firstIllNode, firstIllFlow, formed, same, accepts, stands, passesOf, callFault}
 use Rattle.counters.specs.Blocks.{block, withBlock, withCells, zeros}
 use Rattle.admission.specs.Calls.{change, admitRuling, admitOf}
 use Rattle.marked.specs.Table.{All, table}
 
 pub table-holds : All table
-unfolding checked settled block withBlock withCells zeros unfit firstUnfit callFault change admitRuling admitOf last first any total largest least smallest exponent period sum limit fits base periodsOf sends earlier taken freeOffset turn level levels offsetsFor offsetsOf badGap firstBad dealt ofLink live withFlow withSchedule up depthIn depthOf climb route has used gapsFrom gapsUnder rank dealtUnder baseOf baseUnder crowded firstCrowded entryDealt listed offsetsDealt periodsDealt scheduled gapsJudged routeOf widthAt widthOn sumTo load over firstOver along late firstLate withSite reserved judgeOf numberAt bytesOf nodeAt flowAt badNode badFlow nodeLimits misplaced flowLimits nodeFault flowFault sizeOf fault withNode nodeAdded flowAdded after endOf decodeFrom decode judgeForm readOf linkBytes joined scheduleBytes written siteFault writtenIf shaped nodeOf flowOf illNode illFlow illAt firstIll formed same accepts stands passesOf
+unfolding checked settled block withBlock withCells zeros unfit firstUnfit callFault change admitRuling admitOf last first any total largest least smallest exponent period sum limit fits base periodsOf sends earlier taken freeOffset turn level levels offsetsFor offsetsOf badGap firstBad dealt ofLink live withFlow withSchedule up depthIn depthOf climb route has used gapsFrom gapsUnder rank dealtUnder baseOf baseUnder crowded firstCrowded entryDealt listed offsetsDealt periodsDealt scheduled gapsJudged routeOf widthAt widthOn sumTo load over firstOver along late firstLate withSite reserved judgeOf numberAt bytesOf nodeAt flowAt badNode badFlow nodeLimits misplaced flowLimits nodeFault flowFault sizeOf fault withNode nodeAdded flowAdded after endOf decodeFrom decode judgeForm readOf linkBytes joined scheduleBytes written siteFault writtenIf shaped nodeOf flowOf illNode illFlow firstIllNode firstIllFlow formed same accepts stands passesOf
 table-holds = (refl, (refl, (refl, (refl, (refl, (refl, (refl, (refl, (refl, (refl, (refl, (refl, tt))))))))))))

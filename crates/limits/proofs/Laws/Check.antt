@@ -14,18 +14,20 @@ use mir.Val.{Val}
 use native.Mathlib.Omega.{arith}
 use borrow.Author.Needs.{needs}
 use Rattle.site.specs.declared.Site.{Site}
+use Rattle.site.specs.declared.Flow.{Flow}
 use Rattle.schedule.specs.declared.Verdict.{Verdict}
 use Rattle.schedule.specs.declared.Verdict.the-variants.{Accepted, Refused}
 use Rattle.pinwheel.specs.Outcome.{accepted}
 use Rattle.schedule.specs.Schedule.{offsetsDealt, periodsDealt}
 use Rattle.schedule.specs.Judge.{ruling, withSite, judgeOf}
 use Rattle.site.proofs.Site.{the-row}
+use Rattle.limits.specs.declared.Node.{Node}
 use Rattle.limits.specs.Limits.{nodeLimits, flowLimits}
 use Rattle.site.specs.Sites.{withSchedule}
 use Rattle.schedule.specs.Schedule.{scheduled}
 use Rattle.schedule.proofs.Laws.{judge-gives}
 use Rattle.schedule.proofs.Laws.Rulings.{site-accepted, site-refused}
-use Rattle.limits.specs.Check.{shaped, nodeOf, flowOf, illNode, illFlow, illAt, firstIll, formed, same, accepts, stands, passesOf, callFault}
+use Rattle.limits.specs.Check.{shaped, illNode, illFlow, firstIllNode, firstIllFlow, formed, same, accepts, stands, passesOf, callFault}
 
 -- A site's type tells how long its lists are.
 pub shaped-site : (s : Site) (us : List Val) → Is the-row s us → shaped s ≡ true
@@ -43,60 +45,46 @@ shaped-site s us good =
     rw (a, b, c, d, e, f, g, h, i)
 
 -- A node: one of a link in use, and one past the last link.
-module _ (s : Site) (i : ℕ) where
-  pub node-used : (r : ℕ) → i < s .links → r ≡ nodeLimits (s .parents) i (nodeOf s i) → not (eqb r 0) ≡ illNode s i
+module _ (links : ℕ) (parents : List ℕ) (i : ℕ) (n : Node) where
+  pub node-used : (r : ℕ) → i < links → r ≡ nodeLimits parents i n → not (eqb r 0) ≡ illNode links parents i n
   unfolding illNode
   node-used r l e = rw (lt-ltb _ _ l, e)
 
-  module _ (past : s .links ≤ i) where
-    pub node-parent : (getD (s .parents) i 0 ≡ 0 → ⊥) → true ≡ illNode s i
+  module _ (past : links ≤ i) where
+    pub node-parent : (n .parent ≡ 0 → ⊥) → true ≡ illNode links parents i n
     unfolding illNode
-    node-parent n = simp (le-ltb _ _ past, ne-eqb _ _ n)
+    node-parent a = simp (le-ltb _ _ past, ne-eqb _ _ a)
 
-    pub node-capacity : getD (s .parents) i 0 ≡ 0 → (getD (s .capacities) i 0 ≡ 0 → ⊥) → true ≡ illNode s i
+    pub node-capacity : n .parent ≡ 0 → (n .capacity ≡ 0 → ⊥) → true ≡ illNode links parents i n
     unfolding illNode
-    node-capacity a n = simp (le-ltb _ _ past, a, ne-eqb _ _ n)
+    node-capacity a b = simp (le-ltb _ _ past, a, ne-eqb _ _ b)
 
-    pub node-gap : getD (s .parents) i 0 ≡ 0 → getD (s .capacities) i 0 ≡ 0 → not (eqb (getD (s .gaps) i 0) 0) ≡ illNode s i
+    pub node-gap : n .parent ≡ 0 → n .capacity ≡ 0 → not (eqb (n .gap) 0) ≡ illNode links parents i n
     unfolding illNode
     node-gap a b = simp (le-ltb _ _ past, a, b)
 
 -- A flow: a live one, one of a state that no flow has, and a number not in use.
-module _ (s : Site) (n : ℕ) where
-  pub flow-live : (r : ℕ) → getD (s .states) n 0 ≡ 1 → r ≡ flowLimits (s .links) 0 (flowOf s n) → not (eqb r 0) ≡ illFlow s n
+module _ (links state : ℕ) (f : Flow) where
+  pub flow-live : (r : ℕ) → state ≡ 1 → r ≡ flowLimits links 0 f → not (eqb r 0) ≡ illFlow links state f
   unfolding illFlow
   flow-live r l e = simp (l, e)
 
-  pub flow-state : (getD (s .states) n 0 ≡ 1 → ⊥) → (getD (s .states) n 0 ≡ 0 → ⊥) → true ≡ illFlow s n
+  pub flow-state : (state ≡ 1 → ⊥) → (state ≡ 0 → ⊥) → true ≡ illFlow links state f
   unfolding illFlow
   flow-state a b = simp (ne-eqb _ _ a, ne-eqb _ _ b)
 
-  module _ (idle : getD (s .states) n 0 ≡ 0) where
-    pub flow-entry : (getD (s .entries) n 0 ≡ 0 → ⊥) → true ≡ illFlow s n
+  module _ (idle : state ≡ 0) where
+    pub flow-entry : (f .entry ≡ 0 → ⊥) → true ≡ illFlow links state f
     unfolding illFlow
     flow-entry a = simp (idle, ne-eqb _ _ a)
 
-    pub flow-rate : getD (s .entries) n 0 ≡ 0 → (getD (s .rates) n 0 ≡ 0 → ⊥) → true ≡ illFlow s n
+    pub flow-rate : f .entry ≡ 0 → (f .rate ≡ 0 → ⊥) → true ≡ illFlow links state f
     unfolding illFlow
     flow-rate a b = simp (idle, a, ne-eqb _ _ b)
 
-    pub flow-deadline : getD (s .entries) n 0 ≡ 0 → getD (s .rates) n 0 ≡ 0 → not (eqb (getD (s .deadlines) n 0) 0) ≡ illFlow s n
+    pub flow-deadline : f .entry ≡ 0 → f .rate ≡ 0 → not (eqb (f .deadline) 0) ≡ illFlow links state f
     unfolding illFlow
     flow-deadline a b = simp (idle, a, b)
-
--- Both at one index.
-module _ (s : Site) (n : ℕ) where
-  pub ill-node : (t : Bool) → n < 63 → t ≡ illNode s n → t ≡ true → true ≡ illAt s n
-  unfolding illAt
-  ill-node t l e q = simp (lt-ltb _ _ l, ← e, q)
-
-  pub ill-flow : (t r : Bool) → n < 63 → t ≡ illNode s n → t ≡ false → r ≡ illFlow s n → r ≡ illAt s n
-  unfolding illAt
-  ill-flow t r l e q f = simp (lt-ltb _ _ l, ← e, q) f
-
-  pub ill-last : (r : Bool) → 63 ≤ n → r ≡ illFlow s n → r ≡ illAt s n
-  unfolding illAt
-  ill-last r l f = simp (le-ltb _ _ l) f
 
 -- The test of two lists says whether they are equal.
 same-equal : (a b : List ℕ) → same a b ≡ true → a ≡ b
@@ -175,14 +163,19 @@ module _ (s : Site) (shape : shaped s ≡ true) where
   unfolding passesOf formed
   passes-links l = simp (shape, lt-leb _ _ l)
 
-  module _ (few : s .links ≤ 63) (i : ℕ) (ill : i ≡ firstIll s) where
-    pub passes-ill : i < 64 → false ≡ passesOf s
+  module _ (few : s .links ≤ 63) (i : ℕ) (node : i ≡ firstIllNode s) where
+    pub passes-node : i < 63 → false ≡ passesOf s
     unfolding passesOf formed
-    passes-ill l = rw (shape, le-leb _ _ few, ← ill, lt-leb _ _ l)
+    passes-node l = rw (shape, le-leb _ _ few, ← node, lt-leb _ _ l)
 
-    pub passes-stands : (r : Bool) → 64 ≤ i → r ≡ stands s → r ≡ passesOf s
-    unfolding passesOf formed
-    passes-stands r l q = rw (shape, le-leb _ _ few, ← ill, le-leb _ _ l) q
+    module _ (sound : 63 ≤ i) (n : ℕ) (flow : n ≡ firstIllFlow s) where
+      pub passes-flow : n < 64 → false ≡ passesOf s
+      unfolding passesOf formed
+      passes-flow l = rw (shape, le-leb _ _ few, ← node, le-leb _ _ sound, ← flow, lt-leb _ _ l)
+
+      pub passes-stands : (r : Bool) → 64 ≤ n → r ≡ stands s → r ≡ passesOf s
+      unfolding passesOf formed
+      passes-stands r l q = rw (shape, le-leb _ _ few, ← node, le-leb _ _ sound, ← flow, le-leb _ _ l) q
 
 -- A site that passes has 63 links at most.
 pub passes-few : (s : Site) → passesOf s ≡ true → s .links ≤ 63

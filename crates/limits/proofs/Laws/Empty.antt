@@ -14,13 +14,13 @@ use Rattle.schedule.specs.Schedule.{gapsFrom, gapsUnder, crowded, firstCrowded,
 use Rattle.site.specs.Reservations.{firstOver, late, firstLate}
 use Rattle.schedule.specs.Judge.{reserved, judgeOf}
 use Rattle.schedule.proofs.Laws.Schedule.{offsets-dealt-long, periods-dealt-long, entry-unused}
-use Rattle.limits.specs.Check.{shaped, nodeOf, flowOf, illNode, illFlow, illAt, firstIll, formed, same, accepts, stands, passesOf}
+use Rattle.limits.specs.Check.{shaped, nodeOf, flowOf, illNode, illFlow, firstIllNode, firstIllFlow, formed, same, accepts, stands, passesOf}
 use Rattle.limits.specs.Words.{Formed}
 use Rattle.limits.proofs.Laws.Forms.{linkless-idle}
 
 pub empty-passes : passesOf emptySite ≡ true
-unfolding passesOf shaped formed firstIll illAt illNode illFlow stands accepts judgeOf firstCrowded first crowded gapsUnder gapsFrom used reserved firstOver
-    firstLate late live same offsetsDealt periodsDealt listed entryDealt scheduled withSchedule
+unfolding passesOf shaped formed firstIllNode firstIllFlow nodeOf flowOf illNode illFlow stands accepts judgeOf firstCrowded first crowded gapsUnder gapsFrom
+    used reserved firstOver firstLate late live same offsetsDealt periodsDealt listed entryDealt scheduled withSchedule
 empty-passes = refl
 
 zeros : (xs : List ℕ) (n : ℕ) → length xs ≡ n → ((i : ℕ) → i < n → getD xs i 0 ≡ 0) → xs ≡ replicate n 0

@@ -1,7 +1,7 @@
 -- The form of nodes and flows: the tests say what the words say, and a flow within its limits keeps it.
 use Prim.Native.Nat.{ℕ, _+_, _<_, _≤_}
 use mathlib.Core.Path.{_≡_, refl}
-use mathlib.Core.Bool.{true, false, _&&_, _||_, and-false, and-eq-true-iff}
+use mathlib.Core.Bool.{true, false, _&&_, _||_, and-eq-true-iff}
 use mathlib.Core.List.{List}
 use mathlib.Core.Logic.{_⊎_, inl, inr, ⊎-elim, _↔_}
 use lib.Dec.{eqb, ltb, leb}
@@ -20,8 +20,8 @@ use Rattle.schedule.specs.Words.{Wellgapped}
 use Rattle.site.proofs.Laws.Tree.{depth-same}
 use Rattle.limits.specs.declared.Node.{Node}
 use Rattle.limits.specs.Limits.{badNode, badFlow, nodeLimits, misplaced, flowLimits}
-use Rattle.limits.specs.Check.{shaped, nodeOf, flowOf, illNode, illFlow, illAt, firstIll, formed}
-use Rattle.limits.specs.Words.{Shape, NodeWithin, NodeGood, NoNode, FlowWithin, FlowGood, NoFlow, LiveFlow, IdleAt, LiveAt, Formed}
+use Rattle.limits.specs.Check.{shaped, nodeOf, flowOf, illNode, illFlow, firstIllNode, firstIllFlow, formed}
+use Rattle.limits.specs.Words.{Shape, NodeWithin, NodeGood, NoNode, FlowWithin, FlowGood, NoFlow, LiveFlow, IdleAt, Formed}
 use Rattle.limits.proofs.Laws.Tests.{neither, passed}
 
 -- 5 in words.
@@ -142,91 +142,72 @@ shape-when s = (shape, holds)
           eq-eqb _ _ (g .deadlines),
         )
 
-module _ (s : Site) where
-  -- What check 14 asks of an index below the number of links, and of one from there on.
-  node-in : (i : ℕ) → i < s .links → (illNode s i ≡ false) ↔ NodeGood (s .parents) i (nodeOf s i)
+-- What check 14 asks of a node at an index below the number of links, and at one from there on.
+module _ (links : ℕ) (parents : List ℕ) (i : ℕ) (n : Node) where
+  node-in : i < links → (illNode links parents i n ≡ false) ↔ NodeGood parents i n
   unfolding illNode
-  node-in i l = (
-    λ e. node-good _ _ _ .0 (eqb-true _ _ (not-false _ (rw (lt-ltb i (s .links) l) at e))),
-    λ g. simp (lt-ltb i (s .links) l, eq-eqb _ _ (node-good (s .parents) i (nodeOf s i) .1 g)),
+  node-in l = (
+    λ e. node-good _ _ _ .0 (eqb-true _ _ (not-false _ (rw (lt-ltb i links l) at e))),
+    λ g. simp (lt-ltb i links l, eq-eqb _ _ (node-good parents i n .1 g)),
   )
 
-  node-out : (i : ℕ) → s .links ≤ i → (illNode s i ≡ false) ↔ NoNode (nodeOf s i)
-  unfolding illNode nodeOf
-  node-out i l = (
-    λ e. none (not-false _ (rw (le-ltb i (s .links) l) at e)),
-    λ g. simp (le-ltb i (s .links) l, eq-eqb _ _ (g .parent), eq-eqb _ _ (g .capacity), eq-eqb _ _ (g .gap)),
+  node-out : links ≤ i → (illNode links parents i n ≡ false) ↔ NoNode n
+  unfolding illNode
+  node-out l = (
+    λ e. let a = and-eq-true-iff (eqb (n .parent) 0) (eqb (n .capacity) 0 && eqb (n .gap) 0) .0 (not-false _ (rw (le-ltb i links l) at e)) in
+        let b = and-eq-true-iff (eqb (n .capacity) 0) _ .0 (a .1) in
+        record { parent = eqb-true _ _ (a .0); capacity = eqb-true _ _ (b .0); gap = eqb-true _ _ (b .1) },
+    λ g. simp (le-ltb i links l, eq-eqb _ _ (g .parent), eq-eqb _ _ (g .capacity), eq-eqb _ _ (g .gap)),
   )
-    where
-      none : eqb (getD (s .parents) i 0) 0 && (eqb (getD (s .capacities) i 0) 0 && eqb (getD (s .gaps) i 0) 0) ≡ true → NoNode (nodeOf s i)
-      none e =
-          let a = and-eq-true-iff (eqb (getD (s .parents) i 0) 0) _ .0 e in
-          let b = and-eq-true-iff (eqb (getD (s .capacities) i 0) 0) _ .0 (a .1) in
-          record { parent = eqb-true _ _ (a .0); capacity = eqb-true _ _ (b .0); gap = eqb-true _ _ (b .1) }
 
-  -- What it asks of a flow number.
-  flow-fits : (n : ℕ) → (illFlow s n ≡ false) ↔ (IdleAt s n ⊎ LiveAt s n)
-  unfolding illFlow flowOf
-  flow-fits n = (fits, fine)
-    where
-      fits : illFlow s n ≡ false → IdleAt s n ⊎ LiveAt s n
-      fits e =
-          elim (ℕ-discrete (getD (s .states) n 0) 0) [
-            | yes q ↦
-                let a = and-eq-true-iff (eqb (getD (s .entries) n 0) 0) (eqb (getD (s .rates) n 0) 0 && eqb (getD (s .deadlines) n 0) 0)
-                .0 (not-false _ (rw (eq-eqb _ _ q) at e)) in
-                let b = and-eq-true-iff (eqb (getD (s .rates) n 0) 0) _ .0 (a .1) in
-                inl (record { idle = q; entry = eqb-true _ _ (a .0); rate = eqb-true _ _ (b .0); deadline = eqb-true _ _ (b .1) })
-            | no m ↦
-                let a = and-eq-true-iff (eqb (getD (s .states) n 0) 1) (eqb (flowLimits (s .links) 0 (flowOf s n)) 0)
-                .0 (not-false _ (rw (ne-eqb _ _ m) at e)) in
-                inr (record { live = eqb-true _ _ (a .0); good = flow-good (s .links) 0 (flowOf s n) .0 (eqb-true _ _ (a .1)) })
-          ]
+-- What it asks of a flow.
+flow-fits : (links state : ℕ) (f : Flow) → (illFlow links state f ≡ false) ↔ (NoFlow state f ⊎ LiveFlow links state f)
+unfolding illFlow
+flow-fits links state f = (fits, fine)
+  where
+    fits : illFlow links state f ≡ false → NoFlow state f ⊎ LiveFlow links state f
+    fits e =
+        elim (ℕ-discrete state 0) [
+          | yes q ↦
+              let a = and-eq-true-iff (eqb (f .entry) 0) (eqb (f .rate) 0 && eqb (f .deadline) 0) .0 (not-false _ (rw (eq-eqb _ _ q) at e)) in
+              let b = and-eq-true-iff (eqb (f .rate) 0) _ .0 (a .1) in
+              inl (record { idle = q; entry = eqb-true _ _ (a .0); rate = eqb-true _ _ (b .0); deadline = eqb-true _ _ (b .1) })
+          | no m ↦
+              let a = and-eq-true-iff (eqb state 1) (eqb (flowLimits links 0 f) 0) .0 (not-false _ (rw (ne-eqb _ _ m) at e)) in
+              inr (record { live = eqb-true _ _ (a .0); good = flow-good links 0 f .0 (eqb-true _ _ (a .1)) })
+        ]
 
-      fine : IdleAt s n ⊎ LiveAt s n → illFlow s n ≡ false
-      fine (inl w) = simp (eq-eqb _ _ (w .idle), eq-eqb _ _ (w .entry), eq-eqb _ _ (w .rate), eq-eqb _ _ (w .deadline))
-      fine (inr w) = simp (w .live, eq-eqb _ _ (flow-good (s .links) 0 (flowOf s n) .1 (w .good)))
-
--- Node and flow of one index together.
-module _ (s : Site) (n : ℕ) where
-  flow-well : illAt s n ≡ false → illFlow s n ≡ false
-  unfolding illAt
-  flow-well e = neither (ltb n 63 && illNode s n) _ e .1
-
-  node-well : n < 63 → illAt s n ≡ false → illNode s n ≡ false
-  unfolding illAt
-  node-well l e = rw (lt-ltb n 63 l) at (neither (ltb n 63 && illNode s n) _ e .0)
-
-  both-well : illNode s n ≡ false → illFlow s n ≡ false → illAt s n ≡ false
-  unfolding illAt
-  both-well a b = simp (a, b, and-false)
+    fine : NoFlow state f ⊎ LiveFlow links state f → illFlow links state f ≡ false
+    fine (inl w) = simp (eq-eqb _ _ (w .idle), eq-eqb _ _ (w .entry), eq-eqb _ _ (w .rate), eq-eqb _ _ (w .deadline))
+    fine (inr w) = simp (w .live, eq-eqb _ _ (flow-good links 0 f .1 (w .good)))
 
 -- Check 14's tests of form.
 pub formed-when : (s : Site) → (shaped s && formed s ≡ true) ↔ Formed s
-unfolding formed firstIll nodeOf flowOf
+unfolding formed firstIllNode firstIllFlow nodeOf flowOf
 formed-when s = (forms, holds)
   where
     forms : shaped s && formed s ≡ true → Formed s
     forms e =
         let a = and-eq-true-iff (shaped s) _ .0 e in
         let b = and-eq-true-iff (leb (s .links) 63) _ .0 (a .1) in
-        let none : (n : ℕ) → n < 64 → illAt s n ≡ false = first-none (illAt s) 64 .0 (leb-true _ _ (b .1)) in
+        let c = and-eq-true-iff (leb 63 (firstIllNode s)) _ .0 (b .1) in
         let g : Shape s = shape-when s .0 (a .0) in
         let few : s .links ≤ 63 = leb-true _ _ (b .0) in
-        let sound : (i : ℕ) → i < 63 → illNode s i ≡ false = λ i l. node-well s i l (none i (omega arith)) in
+        let sound : (i : ℕ) → i < 63 → illNode (s .links) (s .parents) i (nodeOf s i) ≡ false = first-none _ 63 .0 (leb-true _ _ (c .0)) in
+        let fit : (n : ℕ) → n < 64 → illFlow (s .links) (getD (s .states) n 0) (flowOf s n) ≡ false = first-none _ 64 .0 (leb-true _ _ (c .1)) in
         record {
           shape = g;
           few = few;
-          nodes = λ i l. node-in s i l .0 (sound i (omega arith));
+          nodes = λ i l. node-in _ _ _ _ l .0 (sound i (omega arith));
           spare =
-              λ i l. ⊎-elim (λ m. node-out s i l .0 (sound i m))
+              λ i l. ⊎-elim (λ m. node-out _ _ _ _ l .0 (sound i m))
               (λ m. record {
                 parent = List·getD-eq-default (s .parents) 0 (omega arith);
                 capacity = List·getD-eq-default (s .capacities) 0 (omega arith);
                 gap = List·getD-eq-default (s .gaps) 0 (omega arith);
               }) (lt-or-le i 63);
           flows =
-              λ n. ⊎-elim (λ m. flow-fits s n .0 (flow-well s n (none n m)))
+              λ n. ⊎-elim (λ m. flow-fits _ _ _ .0 (fit n m))
               (λ m. inl (record {
                 idle = List·getD-eq-default (s .states) 0 (omega arith);
                 entry = List·getD-eq-default (s .entries) 0 (omega arith);
@@ -240,10 +221,9 @@ formed-when s = (forms, holds)
         simp (
           shape-when s .1 (g .shape),
           le-leb _ _ (g .few),
-          le-leb _ _ (first-none (illAt s) 64 .1
-              (λ n l. both-well s n
-              (⊎-elim (λ m. node-in s n m .1 (g .nodes n m)) (λ m. node-out s n m .1 (g .spare n m)) (lt-or-le n (s .links)))
-              (flow-fits s n .1 (g .flows n)))),
+          le-leb 63 (firstIllNode s) (first-none _ 63 .1 (λ i l.
+              ⊎-elim (λ m. node-in _ _ _ _ m .1 (g .nodes i m)) (λ m. node-out _ _ _ _ m .1 (g .spare i m)) (lt-or-le i (s .links)))),
+          le-leb 64 (firstIllFlow s) (first-none _ 64 .1 (λ n l. flow-fits _ _ _ .1 (g .flows n))),
         )
 
 -- The wanted gaps are as the schedule needs them.

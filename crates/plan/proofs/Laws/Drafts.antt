@@ -15,7 +15,7 @@ use Rattle.site.specs.declared.Flow.{Flow}
 use Rattle.site.specs.Sites.{emptySite, live, withFlow}
 use Rattle.site.specs.Tree.{up}
 use Rattle.limits.specs.declared.Node.{Node}
-use Rattle.limits.specs.Check.{shaped, nodeOf, flowOf, illNode, illFlow, illAt, firstIll, formed}
+use Rattle.limits.specs.Check.{shaped, nodeOf, flowOf, illNode, illFlow, firstIllNode, firstIllFlow, formed}
 use Rattle.limits.specs.Words.{Shape, NodeGood, IdleAt, Formed, Unscheduled}
 use Rattle.limits.proofs.Laws.Forms.{formed-when, linkless-idle, good-same, good-wider, flow-good, flow-new, flow-old, flow-formed}
 use Rattle.reader.specs.declared.Draft.{Draft}
@@ -45,7 +45,7 @@ drafted-next d g = record {
 
 -- Before the first command.
 pub blank-drafted : Drafted blank
-unfolding shaped formed firstIll first illAt illNode illFlow
+unfolding shaped formed firstIllNode firstIllFlow first nodeOf flowOf illNode illFlow
 blank-drafted =
     let g = formed-when emptySite .0 refl in
     record {
