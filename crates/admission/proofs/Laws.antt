@@ -85,13 +85,13 @@ nothing a = Unit {0}
 pub admits-first : (s : Site) (counters : List ℕ) (f : Flow) (o : Ruling) → (admitRuling s counters f ≡ o) ↔ Ruled nothing (admissionChecks s counters f) o
 unfolding admitRuling
 admits-first s counters f o =
-    call-first nothing o _ _ (flow-first nothing o _ _
+    call-first nothing o _ _ s counters (flow-first nothing o _ _ (s .links) f
     (ruled-test nothing o (live s (f .number)) 15 (f .number) _ _ _ (λ e. e, λ e. e)
     (λ _. ruled-check nothing o (not (eqb (unfitLink s f) 0)) 17 (unfitLink s f) (λ p. UnfitAt s (f .rate) (links s f) p) _ _
     (λ e. unfit-when s (f .rate) (links s f) (unfitLink s f) (some e) .0 refl)
     (λ p w. unfit p w (unfit-when s (f .rate) (links s f) p (above p w) .1 w))
     (λ _. ruled-test nothing o (ltb (f .deadline) (along (gapsJudged s) (links s f))) 18 (f .number) _ none _ (ltb-true _ _, lt-ltb _ _)
-    (λ _. ruled-end nothing o tt tt (λ b w. refl))))) (s .links) f) s counters
+    (λ _. ruled-end nothing o tt tt (λ b w. refl))))))
   where
     some : not (eqb (unfitLink s f) 0) ≡ true → 1 ≤ unfitLink s f
     some e = let n = eqb-false (unfitLink s f) 0 (not-true _ e) in omega (arith, n)
@@ -106,10 +106,10 @@ admits-first s counters f o =
 pub releases-first : (s : Site) (counters : List ℕ) (n : ℕ) (o : Ruling) → (releaseRuling s counters n ≡ o) ↔ Ruled nothing (releaseChecks s counters n) o
 unfolding releaseRuling
 releases-first s counters n o =
-    call-first nothing o _ _
+    call-first nothing o _ _ s counters
     (ruled-test nothing o (ltb 63 n) 5 0 _ _ _ (ltb-true _ _, lt-ltb _ _)
     (λ _. ruled-test nothing o (not (live s n)) 16 n _ none _ (not-true _, λ e. rw e)
-    (λ _. ruled-end nothing o tt tt (λ b w. refl)))) s counters
+    (λ _. ruled-end nothing o tt tt (λ b w. refl))))
 
 -- What a change tells that was accepted, and one that was refused: by any ruling.
 module _ (r : Ruling) (next s t : Site) (new counters ds : List ℕ) where

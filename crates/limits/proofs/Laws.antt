@@ -55,24 +55,27 @@ call-when s counters = (
 )
 
 -- These checks in words, each the first that fails: 14; 1 and 14; 5 and 6 of a flow.
-module _ {A : Type 0} (gives : A → Type 0) (o : Outcome A) (rest : Outcome A) (cs : Checks) (behind : (rest ≡ o) ↔ Ruled gives cs o) where
-  pub site-first : (s : Site) → (cond (not (passesOf s)) (refused 14 0) rest ≡ o) ↔ Ruled gives (siteChecks s cs) o
-  site-first s = ruled-test gives o (not (passesOf s)) 14 0 _ cs rest (not-when (passesOf s) _ (passes-sound s)) (λ _. behind)
+module _ {A : Type 0} (gives : A → Type 0) (o : Outcome A) (rest : Outcome A) (cs : Checks) where
+  pub site-first : (s : Site) → (passesOf s ≡ true → (rest ≡ o) ↔ Ruled gives cs o)
+      → (cond (not (passesOf s)) (refused 14 0) rest ≡ o) ↔ Ruled gives (siteChecks s cs) o
+  site-first s behind =
+      ruled-test gives o (not (passesOf s)) 14 0 _ cs rest (not-when (passesOf s) _ (passes-sound s)) (λ e. behind (not-false _ e))
 
-  pub call-first : (s : Site) (counters : List ℕ) → (checked (callFault s counters) rest ≡ o) ↔ Ruled gives (callChecks s counters cs) o
+  pub call-first : (s : Site) (counters : List ℕ) → (rest ≡ o) ↔ Ruled gives cs o
+      → (checked (callFault s counters) rest ≡ o) ↔ Ruled gives (callChecks s counters cs) o
   unfolding callFault
-  call-first s counters =
+  call-first s counters behind =
       rw (
         checked-choice (not (eqb (length counters) 576)) 1 (cond (not (passesOf s)) 14 0) rest (omega arith),
         checked-choice (not (passesOf s)) 14 0 rest (omega arith),
         checked-pass 0 rest refl,
       )
       (ruled-test gives o (not (eqb (length counters) 576)) 1 0 _ (siteChecks s cs) (cond (not (passesOf s)) (refused 14 0) rest)
-      (not-when (eqb (length counters) 576) _ (eqb-true _ _, eq-eqb _ _)) (λ _. site-first s))
+      (not-when (eqb (length counters) 576) _ (eqb-true _ _, eq-eqb _ _)) (λ _. site-first s (λ _. behind)))
 
-  pub flow-first : (links : ℕ) (f : Flow) → (checked (flowLimits links 0 f) rest ≡ o) ↔ Ruled gives (flowChecks links f cs) o
+  pub flow-first : (links : ℕ) (f : Flow) → (rest ≡ o) ↔ Ruled gives cs o → (checked (flowLimits links 0 f) rest ≡ o) ↔ Ruled gives (flowChecks links f cs) o
   unfolding flowLimits misplaced
-  flow-first links f =
+  flow-first links f behind =
       rw (
         checked-choice (badFlow f) 5 (cond (misplaced links 0 f) 6 0) rest (omega arith),
         checked-choice (misplaced links 0 f) 6 0 rest (omega arith),

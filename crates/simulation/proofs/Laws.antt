@@ -17,9 +17,8 @@ use Rattle.site.specs.Sites.{used, ofLink}
 use Rattle.schedule.proofs.Laws.Slots.{sends-in}
 use Rattle.limits.specs.Check.{passesOf}
 use Rattle.limits.specs.Words.{Sound}
-use Rattle.limits.proofs.Laws.{passes-sound, siblings-apart}
+use Rattle.limits.proofs.Laws.{passes-sound, site-first, siblings-apart}
 use Rattle.limits.proofs.Laws.Check.{passes-few}
-use Rattle.limits.proofs.Laws.Tests.{not-when}
 use Rattle.simulation.specs.Sender.{childSends, sendingChild, senderOf}
 use Rattle.simulation.specs.Words.{ChildSends, NoneSends, SendingChild, senderChecks}
 use Rattle.simulation.proofs.Laws.Answers.{sender-found}
@@ -96,7 +95,6 @@ sender-none s p t = (
 pub sender-first : (s : Site) (p t : ℕ) (o : Outcome ℕ) → (senderOf s p t ≡ o) ↔ Ruled (SendingChild s p t) (senderChecks s p) o
 unfolding senderOf
 sender-first s p t o =
-    ruled-test (SendingChild s p t) o (not (passesOf s)) 14 0 _ _ _ (not-when (passesOf s) _ (passes-sound s))
-    (λ passed. ruled-test (SendingChild s p t) o (ltb (s .links) p) 6 0 _ none _ (ltb-true _ _, lt-ltb _ _)
-    (λ _. let e = not-false _ passed in
-    ruled-end (SendingChild s p t) o (sendingChild s p t) (child-when s e p t _ .0 refl) (λ c w. sym (child-when s e p t c .1 w))))
+    site-first (SendingChild s p t) o _ _ s
+    (λ e. ruled-test (SendingChild s p t) o (ltb (s .links) p) 6 0 _ none _ (ltb-true _ _, lt-ltb _ _)
+    (λ _. ruled-end (SendingChild s p t) o (sendingChild s p t) (child-when s e p t _ .0 refl) (λ c w. sym (child-when s e p t c .1 w))))
