@@ -5,7 +5,12 @@ use mathlib.Core.List.{List}
 use lib.ListN.{length, getD, take}
 use Rattle.site.specs.declared.Site.{Site}
 use Rattle.site.specs.Sites.{used}
-use Rattle.schedule.specs.Schedule.{rank, gapsUnder, dealtUnder, baseUnder, firstCrowded, offsetsDealt, periodsDealt}
+use Rattle.schedule.specs.Schedule.{rank, gapsFrom, gapsUnder, dealtUnder, baseUnder, firstCrowded, offsetsDealt, periodsDealt}
+
+-- Of each node how many of the first n links have it as their parent: as many gaps as their children want, whatever these are.
+pub record Counted (parents : List ℕ) (n : ℕ) (counts : List ℕ) : Type 0 where
+  pub long : length counts ≡ 64
+  pub each : (gaps : List ℕ) (p : ℕ) → p < 64 → getD counts p 0 ≡ length (gapsFrom parents gaps p n 0)
 
 -- The first n entries of a list of 63 are the gaps wanted by p's children.
 pub record GapsOf (s : Site) (p n : ℕ) (gaps : List ℕ) : Type 0 where

@@ -5,15 +5,32 @@ use site::link_count;
 ghost use mathlib.Core.Path.{_≡_};
 ghost use Prim.Native.Nat.{ℕ, _≤_};
 ghost use Rattle.site.specs.declared.Site.{Site};
-ghost use lib.ListN.{replicate};
+ghost use lib.ListN.{length, replicate};
 ghost use Rattle.pinwheel.specs.Deal.{outcome};
 ghost use Rattle.schedule.specs.Schedule.{baseOf, baseUnder};
-ghost use Rattle.schedule.specs.Inner.{GapsOf, DealtTo, Spread, SlotsOf};
+ghost use Rattle.schedule.specs.Inner.{Counted, GapsOf, DealtTo, Spread, SlotsOf};
 
 fn zeros() -> [u16; 63]
     ensures { λ r. ⌜ r ≡ replicate 63 0 ⌝ }
 {
     [0; 63]
+}
+
+// How many children each node has among these links, the root's at 0.
+fn children_counted(links: usize, parents: &[u8]) -> [u8; 64]
+    requires { ⌜ (links ≤ 63) × (links ≤ length (now parents)) ⌝ }
+    ensures { λ r. ⌜ Counted (now (parents .entry)) links r ⌝ }
+{
+    let mut counts = [0u8; 64];
+    let mut i = 0;
+    while i < links {
+        let parent = parents[i] as usize;
+        if parent < 64 {
+            counts[parent] += 1;
+        }
+        i += 1;
+    }
+    counts
 }
 
 // The gaps that the children of one parent want, in the first `count` places.
@@ -111,15 +128,16 @@ pub(crate) fn deal_all(site: Site) -> Slots
     ensures { λ r. ⌜ SlotsOf site (r .crowded) (r .offsets) (r .periods) ⌝ }
 {
     let n = link_count(site.links);
+    let parents = site.parents;
+    let counts = children_counted(n, &parents);
     let mut offsets = zeros();
     let mut periods = zeros();
     let mut p: usize = 0;
     while p <= n {
-        let wanted = gaps_under(site, p as u8);
-        let count = wanted.count;
-        if 0 < count {
+        if 0 < counts[p] {
+            let wanted = gaps_under(site, p as u8);
             let gaps = wanted.gaps;
-            let dealt = deal_to(count, gaps);
+            let dealt = deal_to(wanted.count, gaps);
             if dealt.base == 0 {
                 break;
             }

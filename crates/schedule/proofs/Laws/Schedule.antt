@@ -9,6 +9,7 @@ use lib.ListN.{length, getD, take, drop, set, replicate, length-append, length-s
 use lib.Seq.{length-take-le, length-front, take-at, take-suc-set, getD-append-seam, getD-set-same, getD-set-other, getD-take, ext-getD}
 use borrow.Author.Count.{below-more}
 use borrow.Author.Tests.{lt-ltb, le-ltb, le-leb, lt-leb, eq-eqb, ne-eqb, eqb-true}
+use native.Mathlib.Decide.{ℕ-discrete}
 use native.Mathlib.Nat.{eq-or-lt-of-le, suc-add, zero-add, add-zero}
 use native.Mathlib.Numerals.{add-one}
 use native.Mathlib.Omega.{arith}
@@ -23,11 +24,7 @@ use Rattle.site.specs.Sites.{used}
 use Rattle.schedule.specs.Schedule.{kept, gapsFrom, gapsUnder, rank, dealtUnder, baseOf, baseUnder, crowded, firstCrowded}
 use Rattle.schedule.specs.Schedule.{entryDealt, listed, offsetsDealt, periodsDealt}
 use Rattle.schedule.specs.Words.{Wellgapped}
-use Rattle.schedule.specs.Inner.{GapsOf, DealtTo, Spread, SlotsOf}
-
--- The gaps wanted by p's children among the r links from index i on.
-abbrev gapsIn : Site → ℕ → ℕ → ℕ → List ℕ
-gapsIn s p r i = gapsFrom (s .parents) (s .gaps) p r i
+use Rattle.schedule.specs.Inner.{Counted, GapsOf, DealtTo, Spread, SlotsOf}
 
 kept-append : (t : Bool) (x : ℕ) (xs ys : List ℕ) → kept t x (xs ++ ys) ≡ kept t x xs ++ ys
 kept-append true x xs ys = refl
@@ -37,50 +34,102 @@ kept-length : (t : Bool) (x : ℕ) (xs : List ℕ) (r : ℕ) → length xs ≤ r
 kept-length true x xs r l = omega arith
 kept-length false x xs r l = omega arith
 
-module _ (s : Site) (p : ℕ) where
+module _ (parents gaps : List ℕ) (p : ℕ) where
   -- The gaps of the a + b links from i on are those of the first a and those of the b after them.
-  gaps-append : (a b i : ℕ) → gapsIn s p (a + b) i ≡ gapsIn s p a i ++ gapsIn s p b (i + a)
+  gaps-append : (a b i : ℕ) → gapsFrom parents gaps p (a + b) i ≡ gapsFrom parents gaps p a i ++ gapsFrom parents gaps p b (i + a)
   unfolding gapsFrom
   gaps-append zero b i = rw (zero-add, add-zero)
   gaps-append (suc a) b i =
       let e : i + suc a ≡ i + 1 + a = omega arith in
       rw (suc-add a b, e)
-      (ap (kept (eqb (getD (s .parents) i 0) p) (getD (s .gaps) i 0)) (gaps-append a b (i + 1))
-      ∙ kept-append (eqb (getD (s .parents) i 0) p) (getD (s .gaps) i 0) (gapsIn s p a (i + 1)) (gapsIn s p b (i + 1 + a)))
+      (ap (kept (eqb (getD parents i 0) p) (getD gaps i 0)) (gaps-append a b (i + 1))
+      ∙ kept-append (eqb (getD parents i 0) p) (getD gaps i 0) (gapsFrom parents gaps p a (i + 1)) (gapsFrom parents gaps p b (i + 1 + a)))
 
-  gaps-length : (r i : ℕ) → length (gapsIn s p r i) ≤ r
+  gaps-length : (r i : ℕ) → length (gapsFrom parents gaps p r i) ≤ r
   unfolding gapsFrom
   gaps-length zero i = omega arith
-  gaps-length (suc r) i = kept-length (eqb (getD (s .parents) i 0) p) (getD (s .gaps) i 0) (gapsIn s p r (i + 1)) r (gaps-length r (i + 1))
+  gaps-length (suc r) i = kept-length (eqb (getD parents i 0) p) (getD gaps i 0) (gapsFrom parents gaps p r (i + 1)) r (gaps-length r (i + 1))
 
   -- From the link at index i on: a child's gap goes in front, another link's does not.
-  gaps-child : (r i : ℕ) → getD (s .parents) i 0 ≡ p → gapsIn s p (suc r) i ≡ getD (s .gaps) i 0 ∷ gapsIn s p r (i + 1)
+  gaps-child : (r i : ℕ) → getD parents i 0 ≡ p → gapsFrom parents gaps p (suc r) i ≡ getD gaps i 0 ∷ gapsFrom parents gaps p r (i + 1)
   unfolding gapsFrom
   gaps-child r i e = rw (eq-eqb _ _ e)
 
-  gaps-other : (r i : ℕ) → (getD (s .parents) i 0 ≡ p → ⊥) → gapsIn s p (suc r) i ≡ gapsIn s p r (i + 1)
+  gaps-other : (r i : ℕ) → (getD parents i 0 ≡ p → ⊥) → gapsFrom parents gaps p (suc r) i ≡ gapsFrom parents gaps p r (i + 1)
   unfolding gapsFrom
   gaps-other r i n = rw (ne-eqb _ _ n)
 
   -- A child's gap stands behind those of the children before it.
-  gaps-split : (n i : ℕ) → i < n → getD (s .parents) i 0 ≡ p
-      → gapsIn s p n 0 ≡ gapsIn s p i 0 ++ (getD (s .gaps) i 0 ∷ gapsIn s p (n - (i + 1)) (i + 1))
+  gaps-split : (n i : ℕ) → i < n → getD parents i 0 ≡ p
+      → gapsFrom parents gaps p n 0 ≡ gapsFrom parents gaps p i 0 ++ (getD gaps i 0 ∷ gapsFrom parents gaps p (n - (i + 1)) (i + 1))
   gaps-split n i l e =
       let n-is : n ≡ i + suc (n - (i + 1)) = omega arith in
-      ap (λ (m : ℕ). gapsIn s p m 0) n-is ∙ gaps-append i (suc (n - (i + 1))) 0 ∙ rw (zero-add, gaps-child (n - (i + 1)) i e)
+      ap (λ (m : ℕ). gapsFrom parents gaps p m 0) n-is ∙ gaps-append i (suc (n - (i + 1))) 0 ∙ rw (zero-add, gaps-child (n - (i + 1)) i e)
 
   -- One link more.
-  gaps-more-child : (i : ℕ) → getD (s .parents) i 0 ≡ p → gapsIn s p (i + 1) 0 ≡ gapsIn s p i 0 ++ (getD (s .gaps) i 0 ∷ [])
+  gaps-more-child : (i : ℕ) → getD parents i 0 ≡ p → gapsFrom parents gaps p (i + 1) 0 ≡ gapsFrom parents gaps p i 0 ++ (getD gaps i 0 ∷ [])
   unfolding gapsFrom
   gaps-more-child i e = gaps-append i 1 0 ∙ rw (zero-add, gaps-child 0 i e)
 
-  gaps-more-other : (i : ℕ) → (getD (s .parents) i 0 ≡ p → ⊥) → gapsIn s p (i + 1) 0 ≡ gapsIn s p i 0
+  gaps-more-other : (i : ℕ) → (getD parents i 0 ≡ p → ⊥) → gapsFrom parents gaps p (i + 1) 0 ≡ gapsFrom parents gaps p i 0
   unfolding gapsFrom
   gaps-more-other i n = gaps-append i 1 0 ∙ rw (zero-add, gaps-other 0 i n, append-nil)
+
+  -- So many children stand before the next link.
+  length-child : (i : ℕ) → getD parents i 0 ≡ p → length (gapsFrom parents gaps p (i + 1) 0) ≡ length (gapsFrom parents gaps p i 0) + 1
+  length-child i e = rw (gaps-more-child i e, length-append)
+
+  length-other : (i : ℕ) → (getD parents i 0 ≡ p → ⊥) → length (gapsFrom parents gaps p (i + 1) 0) ≡ length (gapsFrom parents gaps p i 0)
+  length-other i n = rw (gaps-more-other i n)
+
+pub getD-replicated : (n i x : ℕ) → getD (replicate n x) i x ≡ x
+getD-replicated zero i x = refl
+getD-replicated (suc n) zero x = refl
+getD-replicated (suc n) (suc i) x = getD-replicated n i x
+
+-- children_counted, past the first i links.
+module _ (parents : List ℕ) where
+  pub counted-start : Counted parents 0 (replicate 64 0)
+  unfolding gapsFrom
+  counted-start = record { long = refl; each = λ gaps p l. getD-replicated 64 p 0 }
+
+  module _ (i : ℕ) (counts : List ℕ) (c : Counted parents i counts) where
+    pub counted-few : (p : ℕ) → p < 64 → getD counts p 0 ≤ i
+    counted-few p l = rw (c .each [] p l) (gaps-length parents [] p i 0)
+
+    -- A link whose parent is p.
+    pub counted-more : (p : ℕ) → p ≡ getD parents i 0 → p < 64 → Counted parents (i + 1) (set counts p (getD counts p 0 + 1))
+    counted-more p e l = record {
+      long = simp length-set (c .long);
+      each = λ gaps q m. elim (ℕ-discrete q p) [
+        | yes s ↦
+            rw s (getD-set-same counts p (getD counts p 0 + 1) 0 (omega (arith, c .long)) ∙ ap (λ (n : ℕ). n + 1) (c .each gaps p l)
+            ∙ sym (length-child parents gaps p i (sym e)))
+        | no n ↦
+            getD-set-other counts p q (getD counts p 0 + 1) 0 n ∙ c .each gaps q m ∙ sym (length-other parents gaps q i (λ s. n (sym (e ∙ s))))
+      ];
+    }
+
+    -- A link whose parent is no node.
+    pub counted-none : 64 ≤ getD parents i 0 → Counted parents (i + 1) counts
+    counted-none l =
+        record { long = c .long; each = λ gaps q m. c .each gaps q m ∙ sym (length-other parents gaps q i (λ e. omega arith)) }
+
+pub counted-children : (s : Site) (n : ℕ) (counts : List ℕ) → Counted (s .parents) n counts → n ≡ used (s .links)
+    → (p : ℕ) → p < 64 → getD counts p 0 ≡ length (gapsUnder s p)
+unfolding gapsUnder
+counted-children s n counts c u p l = rw (← u) (c .each (s .gaps) p l)
+
+-- The gaps wanted by p's children among the r links from index i on.
+abbrev gapsIn : Site → ℕ → ℕ → ℕ → List ℕ
+gapsIn s p r i = gapsFrom (s .parents) (s .gaps) p r i
 
 used-most : (links : ℕ) → used links ≤ 63
 unfolding used
 used-most links = omega arith
+
+pub links-most : (n links : ℕ) → n ≡ used links → n ≤ 63
+links-most n links u = omega (arith, used-most links)
 
 -- gaps_under, past the first i links: the first `count` entries are the gaps of p's children among them.
 pub record Collected (s : Site) (p i count : ℕ) (gaps : List ℕ) : Type 0 where
@@ -103,12 +152,12 @@ module _ (s : Site) (p : ℕ) where
       long = simp length-set (c .long);
       few = omega (arith, c .few);
       are =
-          rw (add-one count, take-suc-set gaps count (getD (s .gaps) i 0) (omega (arith, c .long, c .few, c .links)), c .are, gaps-more-child s p i e);
+          rw (add-one count, take-suc-set gaps count (getD (s .gaps) i 0) (omega (arith, c .long, c .few, c .links)), c .are, gaps-more-child (s .parents) (s .gaps) p i e);
     }
 
     pub collected-other : i < used (s .links) → (getD (s .parents) i 0 ≡ p → ⊥) → Collected s p (i + 1) count gaps
     collected-other l n =
-        record { most = omega arith; links = c .links; long = c .long; few = omega (arith, c .few); are = c .are ∙ sym (gaps-more-other s p i n) }
+        record { most = omega arith; links = c .links; long = c .long; few = omega (arith, c .few); are = c .are ∙ sym (gaps-more-other (s .parents) (s .gaps) p i n) }
 
     pub collected-end : used (s .links) ≤ i → GapsOf s p count gaps
     unfolding gapsUnder
@@ -119,24 +168,24 @@ module _ (s : Site) (p : ℕ) where
 module _ (s : Site) (p : ℕ) where
   rank-child : (i : ℕ) → getD (s .parents) i 0 ≡ p → rank s p (i + 1) ≡ rank s p i + 1
   unfolding rank
-  rank-child i e = rw (gaps-more-child s p i e, length-append)
+  rank-child i e = rw (gaps-more-child (s .parents) (s .gaps) p i e, length-append)
 
   -- Of two children the earlier one has the smaller rank.
   pub rank-apart : (i k : ℕ) → i < k → getD (s .parents) i 0 ≡ p → rank s p i < rank s p k
   unfolding rank
-  rank-apart i k l e = rw (gaps-split s p k i l e, length-append) (omega arith)
+  rank-apart i k l e = rw (gaps-split (s .parents) (s .gaps) p k i l e, length-append) (omega arith)
 
   -- A child's rank is the place of its gap among those of all p's children.
   pub child-gap : (i : ℕ) → i < used (s .links) → getD (s .parents) i 0 ≡ p
       → (rank s p i < length (gapsUnder s p)) × (getD (gapsUnder s p) (rank s p i) 0 ≡ getD (s .gaps) i 0)
   unfolding rank gapsUnder
   child-gap i l e =
-      let split = gaps-split s p (used (s .links)) i l e in
+      let split = gaps-split (s .parents) (s .gaps) p (used (s .links)) i l e in
       (rw (split, length-append) (omega arith), rw split (getD-append-seam (gapsIn s p i 0) (getD (s .gaps) i 0) _ 0))
 
   rank-other : (i : ℕ) → (getD (s .parents) i 0 ≡ p → ⊥) → rank s p (i + 1) ≡ rank s p i
   unfolding rank
-  rank-other i n = rw (gaps-more-other s p i n)
+  rank-other i n = rw (gaps-more-other (s .parents) (s .gaps) p i n)
 
 -- spread, past the first i links, k of them p's children: these have their values, and every other entry is as it was.
 pub record Handed (s : Site) (p : ℕ) (values list : List ℕ) (i k : ℕ) (next : List ℕ) : Type 0 where
@@ -240,11 +289,6 @@ getD-listed f zero i k l = absurd (omega arith)
 getD-listed f (suc r) i zero l = rw add-zero
 getD-listed f (suc r) i (suc k) l = let e : i + suc k ≡ i + 1 + k = omega arith in rw e (getD-listed f r (i + 1) k (omega arith))
 
-pub getD-replicated : (n i x : ℕ) → getD (replicate n x) i x ≡ x
-getD-replicated zero i x = refl
-getD-replicated (suc n) zero x = refl
-getD-replicated (suc n) (suc i) x = getD-replicated n i x
-
 -- The entry of a link, in a list that is dealt under every parent.
 module _ (s : Site) (lists : ℕ → List ℕ) where
   entry-some : (i : ℕ) → i < used (s .links) → getD (s .parents) i 0 ≤ used (s .links)
@@ -345,10 +389,9 @@ module _ (s : Site) where
     }
 
     -- With no children under p.
-    pub dealing-none : p ≤ used (s .links) → (n : ℕ) (gaps : List ℕ) → GapsOf s p n gaps → n ≡ 0 → Dealing s (p + 1) os ps
+    pub dealing-none : p ≤ used (s .links) → length (gapsUnder s p) ≡ 0 → Dealing s (p + 1) os ps
     unfolding crowded
-    dealing-none l n gaps g z =
-        let none : length (gapsUnder s p) ≡ 0 = omega (arith, gaps-number s p n gaps g) in
+    dealing-none l none =
         record {
           most = omega arith;
           links = d .links;
@@ -359,10 +402,10 @@ module _ (s : Site) where
 
     -- With what the slot rule deals under p.
     module _ (l : p ≤ used (s .links)) (b n : ℕ) (vs ws : List ℕ) (t : DealtTo s p b n vs ws) where
-      pub dealing-crowded : 0 < n → b ≡ 0 → SlotsOf s p os ps
+      pub dealing-crowded : 0 < length (gapsUnder s p) → b ≡ 0 → SlotsOf s p os ps
       unfolding firstCrowded crowded
       dealing-crowded some z =
-          let m : length (gapsUnder s p) ≡ 0 → ⊥ = omega (arith, t .number) in
+          let m : length (gapsUnder s p) ≡ 0 → ⊥ = omega arith in
           record {
             crowded = sym (first-is (crowded s) (used (s .links) + 1) 0 p (omega arith) (omega arith)
                 (simp (ne-eqb _ _ m, eq-eqb _ _ (sym (t .base) ∙ z))) (d .passed));
@@ -445,7 +488,7 @@ module _ (s : Site) (p : ℕ) where
           offsets-long = length-replicate _ _;
           periods-long = length-replicate _ _;
           some = some;
-          few = omega (arith, gaps-length s p (used (s .links)) 0, used-most (s .links));
+          few = omega (arith, gaps-length (s .parents) (s .gaps) p (used (s .links)) 0, used-most (s .links));
           limits = gaps-limits (used (s .links)) 0 (λ j l. w .limits j (omega arith));
         })
 
