@@ -1,7 +1,7 @@
 -- Right because `Counted` holds of the first i links; links - i falls.
 use borrow.Author.Needs.{needs}
 use Prim.Native.Nat.{_-_, _≤_}
-use mathlib.Core.Path.{_≡_, refl}
+use mathlib.Core.Path.{_≡_}
 use mathlib.Core.Logic.{inl, inr}
 use native.Mathlib.Omega.{arith}
 use Rattle.schedule.specs.Inner.{Counted}
@@ -28,7 +28,7 @@ array-read-counts : tie.Need-array-read-counts Inv-loop μ-loop
 array-read-counts c = search needs
 
 add-counts : tie.Need-add-counts Inv-loop μ-loop
-add-counts c = omega (arith, counted-few _ _ _ (c .before .before .before .loop .inv .1) _ (c .if1 .taken))
+add-counts c = omega (arith, counted-few _ _ _ (c .before .before .before .loop .inv .1) (omega arith))
 
 array-write-counts : tie.Need-array-write-counts Inv-loop μ-loop
 array-write-counts c = search needs
@@ -44,7 +44,7 @@ loop-again c =
     let sofar = c .before .before .before .loop .inv .1 in (
       omega arith,
       elim (c .if1 .came) [
-        | inl w ↦ rw (w .1) (counted-more _ _ _ sofar _ refl (w .0 .taken))
+        | inl w ↦ rw (w .1) (counted-more _ _ _ sofar (omega arith))
         | inr w ↦ rw (w .1) (counted-none _ _ _ sofar (omega arith))
       ],
     )
