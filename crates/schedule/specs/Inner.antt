@@ -5,13 +5,18 @@ use mathlib.Core.List.{List}
 use lib.ListN.{length, getD, take}
 use Rattle.site.specs.declared.Site.{Site}
 use Rattle.site.specs.Sites.{used}
-use Rattle.schedule.specs.Schedule.{rank, gapsUnder, dealtUnder, baseUnder, firstCrowded, offsetsDealt, periodsDealt}
+use Rattle.schedule.specs.Schedule.{gapsFrom, gapsUnder, dealtUnder, baseUnder, firstCrowded, offsetsDealt, periodsDealt}
 
--- The first n entries of a list of 63 are the gaps wanted by p's children.
-pub record GapsOf (s : Site) (p n : ℕ) (gaps : List ℕ) : Type 0 where
+-- How many of the first n links have each node as their parent, said as the number of gaps that they want, whatever gaps these are.
+pub record Counted (parents : List ℕ) (n : ℕ) (counts : List ℕ) : Type 0 where
+  pub long : length counts ≡ 64
+  pub each : (gaps : List ℕ) (p : ℕ) → p < 64 → getD counts p 0 ≡ length (gapsFrom parents gaps p n 0)
+
+-- The first n entries of a list of 63 are the gaps wanted.
+pub record GapsOf (wanted : List ℕ) (n : ℕ) (gaps : List ℕ) : Type 0 where
   pub long : length gaps ≡ 63
   pub few : n ≤ 63
-  pub are : take n gaps ≡ gapsUnder s p
+  pub are : take n gaps ≡ wanted
 
 -- The base that the slot rule finds for the n children of p, and in the first n of 63 entries what it deals them.
 pub record DealtTo (s : Site) (p b n : ℕ) (os ps : List ℕ) : Type 0 where
@@ -29,8 +34,9 @@ pub record SlotsOf (s : Site) (p : ℕ) (os ps : List ℕ) : Type 0 where
   pub offsets : used (s .links) < p → os ≡ offsetsDealt s
   pub periods : used (s .links) < p → ps ≡ periodsDealt s
 
--- r is the list with the values handed out to p's children in their order.
-pub record Spread (s : Site) (p : ℕ) (values list r : List ℕ) : Type 0 where
+-- r is the list with the values handed out, in their order, to p's children among the first n links. A child's value is at the number of the children before
+-- it, said again as the number of gaps that they want.
+pub record Spread (parents : List ℕ) (n p : ℕ) (values list r : List ℕ) : Type 0 where
   pub long : length r ≡ 63
-  pub child : (i : ℕ) → i < used (s .links) → getD (s .parents) i 0 ≡ p → getD r i 0 ≡ getD values (rank s p i) 0
-  pub other : (i : ℕ) → (i < used (s .links) → getD (s .parents) i 0 ≡ p → ⊥) → getD r i 0 ≡ getD list i 0
+  pub child : (gaps : List ℕ) (i : ℕ) → i < n → getD parents i 0 ≡ p → getD r i 0 ≡ getD values (length (gapsFrom parents gaps p i 0)) 0
+  pub other : (i : ℕ) → (i < n → getD parents i 0 ≡ p → ⊥) → getD r i 0 ≡ getD list i 0

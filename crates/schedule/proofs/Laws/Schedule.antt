@@ -9,6 +9,7 @@ use lib.ListN.{length, getD, take, drop, set, replicate, length-append, length-s
 use lib.Seq.{length-take-le, length-front, take-at, take-suc-set, getD-append-seam, getD-set-same, getD-set-other, getD-take, ext-getD}
 use borrow.Author.Count.{below-more}
 use borrow.Author.Tests.{lt-ltb, le-ltb, le-leb, lt-leb, eq-eqb, ne-eqb, eqb-true}
+use native.Mathlib.Decide.{ℕ-discrete}
 use native.Mathlib.Nat.{eq-or-lt-of-le, suc-add, zero-add, add-zero}
 use native.Mathlib.Numerals.{add-one}
 use native.Mathlib.Omega.{arith}
@@ -23,11 +24,7 @@ use Rattle.site.specs.Sites.{used}
 use Rattle.schedule.specs.Schedule.{kept, gapsFrom, gapsUnder, rank, dealtUnder, baseOf, baseUnder, crowded, firstCrowded}
 use Rattle.schedule.specs.Schedule.{entryDealt, listed, offsetsDealt, periodsDealt}
 use Rattle.schedule.specs.Words.{Wellgapped}
-use Rattle.schedule.specs.Inner.{GapsOf, DealtTo, Spread, SlotsOf}
-
--- The gaps wanted by p's children among the r links from index i on.
-abbrev gapsIn : Site → ℕ → ℕ → ℕ → List ℕ
-gapsIn s p r i = gapsFrom (s .parents) (s .gaps) p r i
+use Rattle.schedule.specs.Inner.{Counted, GapsOf, DealtTo, Spread, SlotsOf}
 
 kept-append : (t : Bool) (x : ℕ) (xs ys : List ℕ) → kept t x (xs ++ ys) ≡ kept t x xs ++ ys
 kept-append true x xs ys = refl
@@ -37,160 +34,166 @@ kept-length : (t : Bool) (x : ℕ) (xs : List ℕ) (r : ℕ) → length xs ≤ r
 kept-length true x xs r l = omega arith
 kept-length false x xs r l = omega arith
 
-module _ (s : Site) (p : ℕ) where
+module _ (parents gaps : List ℕ) (p : ℕ) where
   -- The gaps of the a + b links from i on are those of the first a and those of the b after them.
-  gaps-append : (a b i : ℕ) → gapsIn s p (a + b) i ≡ gapsIn s p a i ++ gapsIn s p b (i + a)
+  gaps-append : (a b i : ℕ) → gapsFrom parents gaps p (a + b) i ≡ gapsFrom parents gaps p a i ++ gapsFrom parents gaps p b (i + a)
   unfolding gapsFrom
   gaps-append zero b i = rw (zero-add, add-zero)
   gaps-append (suc a) b i =
       let e : i + suc a ≡ i + 1 + a = omega arith in
       rw (suc-add a b, e)
-      (ap (kept (eqb (getD (s .parents) i 0) p) (getD (s .gaps) i 0)) (gaps-append a b (i + 1))
-      ∙ kept-append (eqb (getD (s .parents) i 0) p) (getD (s .gaps) i 0) (gapsIn s p a (i + 1)) (gapsIn s p b (i + 1 + a)))
+      (ap (kept (eqb (getD parents i 0) p) (getD gaps i 0)) (gaps-append a b (i + 1))
+      ∙ kept-append (eqb (getD parents i 0) p) (getD gaps i 0) (gapsFrom parents gaps p a (i + 1)) (gapsFrom parents gaps p b (i + 1 + a)))
 
-  gaps-length : (r i : ℕ) → length (gapsIn s p r i) ≤ r
+  gaps-length : (r i : ℕ) → length (gapsFrom parents gaps p r i) ≤ r
   unfolding gapsFrom
   gaps-length zero i = omega arith
-  gaps-length (suc r) i = kept-length (eqb (getD (s .parents) i 0) p) (getD (s .gaps) i 0) (gapsIn s p r (i + 1)) r (gaps-length r (i + 1))
+  gaps-length (suc r) i = kept-length (eqb (getD parents i 0) p) (getD gaps i 0) (gapsFrom parents gaps p r (i + 1)) r (gaps-length r (i + 1))
 
   -- From the link at index i on: a child's gap goes in front, another link's does not.
-  gaps-child : (r i : ℕ) → getD (s .parents) i 0 ≡ p → gapsIn s p (suc r) i ≡ getD (s .gaps) i 0 ∷ gapsIn s p r (i + 1)
+  gaps-child : (r i : ℕ) → getD parents i 0 ≡ p → gapsFrom parents gaps p (suc r) i ≡ getD gaps i 0 ∷ gapsFrom parents gaps p r (i + 1)
   unfolding gapsFrom
   gaps-child r i e = rw (eq-eqb _ _ e)
 
-  gaps-other : (r i : ℕ) → (getD (s .parents) i 0 ≡ p → ⊥) → gapsIn s p (suc r) i ≡ gapsIn s p r (i + 1)
+  gaps-other : (r i : ℕ) → (getD parents i 0 ≡ p → ⊥) → gapsFrom parents gaps p (suc r) i ≡ gapsFrom parents gaps p r (i + 1)
   unfolding gapsFrom
   gaps-other r i n = rw (ne-eqb _ _ n)
 
   -- A child's gap stands behind those of the children before it.
-  gaps-split : (n i : ℕ) → i < n → getD (s .parents) i 0 ≡ p
-      → gapsIn s p n 0 ≡ gapsIn s p i 0 ++ (getD (s .gaps) i 0 ∷ gapsIn s p (n - (i + 1)) (i + 1))
+  gaps-split : (n i : ℕ) → i < n → getD parents i 0 ≡ p
+      → gapsFrom parents gaps p n 0 ≡ gapsFrom parents gaps p i 0 ++ (getD gaps i 0 ∷ gapsFrom parents gaps p (n - (i + 1)) (i + 1))
   gaps-split n i l e =
       let n-is : n ≡ i + suc (n - (i + 1)) = omega arith in
-      ap (λ (m : ℕ). gapsIn s p m 0) n-is ∙ gaps-append i (suc (n - (i + 1))) 0 ∙ rw (zero-add, gaps-child (n - (i + 1)) i e)
+      ap (λ (m : ℕ). gapsFrom parents gaps p m 0) n-is ∙ gaps-append i (suc (n - (i + 1))) 0 ∙ rw (zero-add, gaps-child (n - (i + 1)) i e)
 
   -- One link more.
-  gaps-more-child : (i : ℕ) → getD (s .parents) i 0 ≡ p → gapsIn s p (i + 1) 0 ≡ gapsIn s p i 0 ++ (getD (s .gaps) i 0 ∷ [])
+  gaps-more-child : (i : ℕ) → getD parents i 0 ≡ p → gapsFrom parents gaps p (i + 1) 0 ≡ gapsFrom parents gaps p i 0 ++ (getD gaps i 0 ∷ [])
   unfolding gapsFrom
   gaps-more-child i e = gaps-append i 1 0 ∙ rw (zero-add, gaps-child 0 i e)
 
-  gaps-more-other : (i : ℕ) → (getD (s .parents) i 0 ≡ p → ⊥) → gapsIn s p (i + 1) 0 ≡ gapsIn s p i 0
+  gaps-more-other : (i : ℕ) → (getD parents i 0 ≡ p → ⊥) → gapsFrom parents gaps p (i + 1) 0 ≡ gapsFrom parents gaps p i 0
   unfolding gapsFrom
   gaps-more-other i n = gaps-append i 1 0 ∙ rw (zero-add, gaps-other 0 i n, append-nil)
+
+  -- How many children stand before the next link.
+  length-child : (i : ℕ) → getD parents i 0 ≡ p → length (gapsFrom parents gaps p (i + 1) 0) ≡ length (gapsFrom parents gaps p i 0) + 1
+  length-child i e = rw (gaps-more-child i e, length-append)
+
+  length-other : (i : ℕ) → (getD parents i 0 ≡ p → ⊥) → length (gapsFrom parents gaps p (i + 1) 0) ≡ length (gapsFrom parents gaps p i 0)
+  length-other i n = rw (gaps-more-other i n)
+
+pub getD-replicated : (n i x : ℕ) → getD (replicate n x) i x ≡ x
+getD-replicated zero i x = refl
+getD-replicated (suc n) zero x = refl
+getD-replicated (suc n) (suc i) x = getD-replicated n i x
+
+-- children_counted, past the first i links.
+module _ (parents : List ℕ) where
+  pub counted-start : Counted parents 0 (replicate 64 0)
+  unfolding gapsFrom
+  counted-start = record { long = refl; each = λ gaps p l. getD-replicated 64 p 0 }
+
+  module _ (i : ℕ) (counts : List ℕ) (c : Counted parents i counts) where
+    -- The next link's parent is a node: it has a child more.
+    module _ (l : getD parents i 0 < 64) where
+      pub counted-few : getD counts (getD parents i 0) 0 ≤ i
+      counted-few = rw (c .each [] (getD parents i 0) l) (gaps-length parents [] (getD parents i 0) i 0)
+
+      pub counted-more : Counted parents (i + 1) (set counts (getD parents i 0) (getD counts (getD parents i 0) 0 + 1))
+      counted-more =
+          let p = getD parents i 0 in
+          record {
+            long = simp length-set (c .long);
+            each = λ gaps q m. elim (ℕ-discrete q p) [
+              | yes e ↦
+                  rw e (getD-set-same counts p (getD counts p 0 + 1) 0 (omega (arith, c .long)) ∙ ap (λ (n : ℕ). n + 1) (c .each gaps p l)
+                  ∙ sym (length-child parents gaps p i refl))
+              | no n ↦
+                  getD-set-other counts p q (getD counts p 0 + 1) 0 n ∙ c .each gaps q m ∙ sym (length-other parents gaps q i (λ e. n (sym e)))
+            ];
+          }
+
+    -- It is none: nobody asks for its children.
+    pub counted-none : 64 ≤ getD parents i 0 → Counted parents (i + 1) counts
+    counted-none l =
+        record { long = c .long; each = λ gaps q m. c .each gaps q m ∙ sym (length-other parents gaps q i (λ e. omega arith)) }
 
 used-most : (links : ℕ) → used links ≤ 63
 unfolding used
 used-most links = omega arith
 
 -- gaps_under, past the first i links: the first `count` entries are the gaps of p's children among them.
-pub record Collected (s : Site) (p i count : ℕ) (gaps : List ℕ) : Type 0 where
-  pub most : i ≤ used (s .links)
-  pub links : used (s .links) ≤ 63
-  pub long : length gaps ≡ 63
-  pub few : count ≤ i
-  pub are : take count gaps ≡ gapsIn s p i 0
-
-module _ (s : Site) (p : ℕ) where
-  pub collected-start : (gaps : List ℕ) → length gaps ≡ 63 → Collected s p 0 0 gaps
+module _ (parents gaps : List ℕ) (p : ℕ) where
+  pub gathered-start : (wanted : List ℕ) → length wanted ≡ 63 → GapsOf (gapsFrom parents gaps p 0 0) 0 wanted
   unfolding gapsFrom
-  collected-start gaps l = record { most = omega arith; links = used-most (s .links); long = l; few = omega arith; are = refl }
+  gathered-start wanted l = record { long = l; few = omega arith; are = refl }
 
-  module _ (i count : ℕ) (gaps : List ℕ) (c : Collected s p i count gaps) where
-    pub collected-child : i < used (s .links) → getD (s .parents) i 0 ≡ p → Collected s p (i + 1) (count + 1) (set gaps count (getD (s .gaps) i 0))
-    collected-child l e = record {
-      most = omega arith;
-      links = c .links;
-      long = simp length-set (c .long);
-      few = omega (arith, c .few);
-      are =
-          rw (add-one count, take-suc-set gaps count (getD (s .gaps) i 0) (omega (arith, c .long, c .few, c .links)), c .are, gaps-more-child s p i e);
+  module _ (i count : ℕ) (wanted : List ℕ) (g : GapsOf (gapsFrom parents gaps p i 0) count wanted) where
+    pub gathered-child : count < 63 → getD parents i 0 ≡ p → GapsOf (gapsFrom parents gaps p (i + 1) 0) (count + 1) (set wanted count (getD gaps i 0))
+    gathered-child l e = record {
+      long = simp length-set (g .long);
+      few = omega arith;
+      are = rw (add-one count, take-suc-set wanted count (getD gaps i 0) (omega (arith, g .long)), g .are, gaps-more-child parents gaps p i e);
     }
 
-    pub collected-other : i < used (s .links) → (getD (s .parents) i 0 ≡ p → ⊥) → Collected s p (i + 1) count gaps
-    collected-other l n =
-        record { most = omega arith; links = c .links; long = c .long; few = omega (arith, c .few); are = c .are ∙ sym (gaps-more-other s p i n) }
+    pub gathered-other : (getD parents i 0 ≡ p → ⊥) → GapsOf (gapsFrom parents gaps p (i + 1) 0) count wanted
+    gathered-other n = rw (gaps-more-other parents gaps p i n) g
 
-    pub collected-end : used (s .links) ≤ i → GapsOf s p count gaps
-    unfolding gapsUnder
-    collected-end l =
-        let e : i ≡ used (s .links) = omega (arith, c .most) in
-        record { long = c .long; few = omega (arith, c .few, c .most, c .links); are = rw (← e) (c .are) }
+-- Past all links of a site they are those of all p's children.
+pub gathered-all : (s : Site) (n p m : ℕ) (gaps : List ℕ) → n ≡ used (s .links) → GapsOf (gapsFrom (s .parents) (s .gaps) p n 0) m gaps
+    → GapsOf (gapsUnder s p) m gaps
+unfolding gapsUnder
+gathered-all s n p m gaps u g = rw (← u) g
 
 module _ (s : Site) (p : ℕ) where
-  rank-child : (i : ℕ) → getD (s .parents) i 0 ≡ p → rank s p (i + 1) ≡ rank s p i + 1
-  unfolding rank
-  rank-child i e = rw (gaps-more-child s p i e, length-append)
-
   -- Of two children the earlier one has the smaller rank.
   pub rank-apart : (i k : ℕ) → i < k → getD (s .parents) i 0 ≡ p → rank s p i < rank s p k
   unfolding rank
-  rank-apart i k l e = rw (gaps-split s p k i l e, length-append) (omega arith)
+  rank-apart i k l e = rw (gaps-split (s .parents) (s .gaps) p k i l e, length-append) (omega arith)
 
   -- A child's rank is the place of its gap among those of all p's children.
   pub child-gap : (i : ℕ) → i < used (s .links) → getD (s .parents) i 0 ≡ p
       → (rank s p i < length (gapsUnder s p)) × (getD (gapsUnder s p) (rank s p i) 0 ≡ getD (s .gaps) i 0)
   unfolding rank gapsUnder
   child-gap i l e =
-      let split = gaps-split s p (used (s .links)) i l e in
-      (rw (split, length-append) (omega arith), rw split (getD-append-seam (gapsIn s p i 0) (getD (s .gaps) i 0) _ 0))
+      let split = gaps-split (s .parents) (s .gaps) p (used (s .links)) i l e in
+      (rw (split, length-append) (omega arith), rw split (getD-append-seam (gapsFrom (s .parents) (s .gaps) p i 0) (getD (s .gaps) i 0) _ 0))
 
-  rank-other : (i : ℕ) → (getD (s .parents) i 0 ≡ p → ⊥) → rank s p (i + 1) ≡ rank s p i
-  unfolding rank
-  rank-other i n = rw (gaps-more-other s p i n)
-
--- spread, past the first i links, k of them p's children: these have their values, and every other entry is as it was.
-pub record Handed (s : Site) (p : ℕ) (values list : List ℕ) (i k : ℕ) (next : List ℕ) : Type 0 where
-  pub most : i ≤ used (s .links)
-  pub links : used (s .links) ≤ 63
-  pub long : length next ≡ 63
-  pub number : k ≡ rank s p i
+-- spread, past the first i links: k of them are p's children.
+pub record Ranked (parents : List ℕ) (p i k : ℕ) : Type 0 where
   pub few : k ≤ i
-  pub child : (j : ℕ) → j < i → getD (s .parents) j 0 ≡ p → getD next j 0 ≡ getD values (rank s p j) 0
-  pub other : (j : ℕ) → (j < i → getD (s .parents) j 0 ≡ p → ⊥) → getD next j 0 ≡ getD list j 0
+  pub number : (gaps : List ℕ) → k ≡ length (gapsFrom parents gaps p i 0)
 
-module _ (s : Site) (p : ℕ) (values list : List ℕ) where
-  pub handed-start : length list ≡ 63 → Handed s p values list 0 0 list
-  unfolding rank gapsFrom
-  handed-start l = record {
-    most = omega arith;
-    links = used-most (s .links);
-    long = l;
-    number = refl;
-    few = omega arith;
-    child = λ j m. absurd (omega arith);
-    other = λ j n. refl;
-  }
+module _ (parents : List ℕ) (p : ℕ) where
+  pub ranked-start : Ranked parents p 0 0
+  unfolding gapsFrom
+  ranked-start = record { few = omega arith; number = λ gaps. refl }
 
-  module _ (i k : ℕ) (next : List ℕ) (h : Handed s p values list i k next) where
-    pub handed-child : i < used (s .links) → getD (s .parents) i 0 ≡ p → Handed s p values list (i + 1) (k + 1) (set next i (getD values k 0))
-    handed-child l e = record {
-      most = omega arith;
-      links = h .links;
-      long = simp length-set (h .long);
-      number = rw (rank-child s p i e, h .number);
-      few = omega (arith, h .few);
-      child = below-more _ i (λ j m q. getD-set-other next i j (getD values k 0) 0 (λ z. omega arith) ∙ h .child j m q)
-          (λ q. getD-set-same next i (getD values k 0) 0 (omega (arith, h .long, h .links)) ∙ rw (h .number));
-      other = λ j n. getD-set-other next i j (getD values k 0) 0 (λ z. n (omega arith) (rw z e)) ∙ h .other j (λ m q. n (omega arith) q);
-    }
+  pub handed-start : (values list : List ℕ) → length list ≡ 63 → Spread parents 0 p values list list
+  handed-start values list l = record { long = l; child = λ gaps j m. absurd (omega arith); other = λ j n. refl }
 
-    pub handed-other : i < used (s .links) → (getD (s .parents) i 0 ≡ p → ⊥) → Handed s p values list (i + 1) k next
-    handed-other l n = record {
-      most = omega arith;
-      links = h .links;
-      long = h .long;
-      number = h .number ∙ sym (rank-other s p i n);
-      few = omega (arith, h .few);
-      child = below-more _ i (h .child) (λ q. absurd (n q));
-      other = λ j m. h .other j (λ b q. m (omega arith) q);
-    }
+  module _ (i k : ℕ) (h : Ranked parents p i k) where
+    pub ranked-child : getD parents i 0 ≡ p → Ranked parents p (i + 1) (k + 1)
+    ranked-child e = record { few = omega (arith, h .few); number = λ gaps. rw (length-child parents gaps p i e, h .number gaps) }
 
-    pub handed-end : used (s .links) ≤ i → Spread s p values list next
-    handed-end l = record {
-      long = h .long;
-      child = λ j m. h .child j (omega arith);
-      other = λ j n. h .other j (λ b. n (omega (arith, h .most)));
-    }
+    pub ranked-other : (getD parents i 0 ≡ p → ⊥) → Ranked parents p (i + 1) k
+    ranked-other n = record { few = omega (arith, h .few); number = λ gaps. h .number gaps ∙ sym (length-other parents gaps p i n) }
+
+    module _ (values list next : List ℕ) (w : Spread parents i p values list next) where
+      pub handed-child : i < 63 → getD parents i 0 ≡ p → Spread parents (i + 1) p values list (set next i (getD values k 0))
+      handed-child l e = record {
+        long = simp length-set (w .long);
+        child = λ gaps. below-more _ i (λ j m q. getD-set-other next i j (getD values k 0) 0 (λ z. omega arith) ∙ w .child gaps j m q)
+            (λ q. getD-set-same next i (getD values k 0) 0 (omega (arith, w .long)) ∙ rw (h .number gaps));
+        other = λ j n. getD-set-other next i j (getD values k 0) 0 (λ z. n (omega arith) (rw z e)) ∙ w .other j (λ m q. n (omega arith) q);
+      }
+
+      pub handed-other : (getD parents i 0 ≡ p → ⊥) → Spread parents (i + 1) p values list next
+      handed-other n = record {
+        long = w .long;
+        child = λ gaps. below-more _ i (w .child gaps) (λ q. absurd (n q));
+        other = λ j m. w .other j (λ b q. m (omega arith) q);
+      }
 
 take-replicate : (n m x : ℕ) → n ≤ m → take n (replicate m x) ≡ replicate n x
 take-replicate zero m x l = refl
@@ -198,14 +201,14 @@ take-replicate (suc n) zero x l = absurd (omega arith)
 take-replicate (suc n) (suc m) x l = ap (λ (xs : List ℕ). x ∷ xs) (take-replicate n m x (omega arith))
 
 -- The gaps gathered are as many as the children.
-pub gaps-number : (s : Site) (p n : ℕ) (gaps : List ℕ) → GapsOf s p n gaps → n ≡ length (gapsUnder s p)
-gaps-number s p n gaps g = sym (length-take-le n gaps (omega (arith, g .few, g .long))) ∙ ap length (g .are)
+gaps-number : (wanted : List ℕ) (n : ℕ) (gaps : List ℕ) → GapsOf wanted n gaps → n ≡ length wanted
+gaps-number wanted n gaps g = sym (length-take-le n gaps (omega (arith, g .few, g .long))) ∙ ap length (g .are)
 
 -- deal_to: the slot rule was lent the gaps and the first n of 63 zeros, twice.
-module _ (s : Site) (p n : ℕ) (gaps zs ys : List ℕ) (g : GapsOf s p n gaps) (z : zs ≡ replicate 63 0) (y : ys ≡ replicate 63 0) where
+module _ (s : Site) (p n : ℕ) (gaps zs ys : List ℕ) (g : GapsOf (gapsUnder s p) n gaps) (z : zs ≡ replicate 63 0) (y : ys ≡ replicate 63 0) where
   same : dealt 2 (take n gaps) (take n zs) (take n ys) ≡ dealtUnder s p
   unfolding dealtUnder
-  same = rw (z, y, take-replicate n 63 0 (g .few), g .are, ← gaps-number s p n gaps g)
+  same = rw (z, y, take-replicate n 63 0 (g .few), g .are, ← gaps-number (gapsUnder s p) n gaps g)
 
   pub dealt-to : (answer : Outcome ℕ) (os ps : List ℕ) → (answer, os, ps) ≡ dealt 2 (take n gaps) (take n zs) (take n ys)
       → (b : ℕ) → b ≡ baseOf answer
@@ -216,7 +219,7 @@ module _ (s : Site) (p n : ℕ) (gaps zs ys : List ℕ) (g : GapsOf s p n gaps) 
       record {
         offsets-long = length-front zs os n o ∙ rw z;
         periods-long = length-front ys ps n k ∙ rw y;
-        number = gaps-number s p n gaps g;
+        number = gaps-number (gapsUnder s p) n gaps g;
         few = g .few;
         base = q ∙ ap (λ (r : Outcome ℕ × List ℕ × List ℕ). baseOf (r .0)) told;
         offsets = take-at os (drop n zs) n (o ∙ front zs z) ∙ ap (λ (r : Outcome ℕ × List ℕ × List ℕ). r .1) told;
@@ -239,11 +242,6 @@ unfolding listed
 getD-listed f zero i k l = absurd (omega arith)
 getD-listed f (suc r) i zero l = rw add-zero
 getD-listed f (suc r) i (suc k) l = let e : i + suc k ≡ i + 1 + k = omega arith in rw e (getD-listed f r (i + 1) k (omega arith))
-
-pub getD-replicated : (n i x : ℕ) → getD (replicate n x) i x ≡ x
-getD-replicated zero i x = refl
-getD-replicated (suc n) zero x = refl
-getD-replicated (suc n) (suc i) x = getD-replicated n i x
 
 -- The entry of a link, in a list that is dealt under every parent.
 module _ (s : Site) (lists : ℕ → List ℕ) where
@@ -289,8 +287,9 @@ module _ (s : Site) (lists : ℕ → List ℕ) where
         go i l (inr b) = e .some i l b
 
     -- The values, p's list in front, were handed out to p's n children.
-    entered-more : (n : ℕ) (values : List ℕ) → n ≡ length (gapsUnder s p) → take n values ≡ lists p → (r : List ℕ) → Spread s p values list r
+    entered-more : (n : ℕ) (values : List ℕ) → n ≡ length (gapsUnder s p) → take n values ≡ lists p → (r : List ℕ) → Spread (s .parents) (used (s .links)) p values list r
         → Entered s lists (p + 1) r
+    unfolding rank
     entered-more n values number are r h =
         record {
           long = h .long;
@@ -301,7 +300,7 @@ module _ (s : Site) (lists : ℕ → List ℕ) where
         go : (i : ℕ) → i < used (s .links) → (getD (s .parents) i 0 ≡ p) ⊎ (getD (s .parents) i 0 < p)
             → getD r i 0 ≡ getD (lists (getD (s .parents) i 0)) (rank s (getD (s .parents) i 0) i) 0
         go i l (inl q) =
-            h .child i l q ∙ sym (getD-take n values (rank s p i) 0 (omega (arith, child-gap s p i l q .0))) ∙ rw (are, q)
+            h .child (s .gaps) i l q ∙ sym (getD-take n values (rank s p i) 0 (omega (arith, child-gap s p i l q .0))) ∙ rw (are, q)
         go i l (inr b) = h .other i (λ m q. absurd (omega arith)) ∙ e .some i l b
 
     entered-end : used (s .links) < p → p ≤ used (s .links) + 1 → list ≡ listed (entryDealt s lists) 63 0
@@ -318,74 +317,90 @@ module _ (s : Site) (lists : ℕ → List ℕ) where
         go i (inl l) (inr m) = e .some i l (omega arith) ∙ sym (entry-some s lists i l m)
 
 -- deal_all, with the parents below p done: none of them is crowded, and both lists have what is dealt to their children.
-pub record Dealing (s : Site) (p : ℕ) (os ps : List ℕ) : Type 0 where
-  pub most : p ≤ used (s .links) + 1
-  pub links : used (s .links) ≤ 63
+pub record Dealing (s : Site) (n : ℕ) (counts : List ℕ) (p : ℕ) (os ps : List ℕ) : Type 0 where
+  pub all : n ≡ used (s .links)
+  pub links : n ≤ 63
+  pub counted : Counted (s .parents) n counts
+  pub most : p ≤ n + 1
   pub passed : (q : ℕ) → q < p → crowded s q ≡ false
   pub offsets : Entered s (λ q. dealtUnder s q .1) p os
   pub periods : Entered s (λ q. dealtUnder s q .2) p ps
 
-module _ (s : Site) where
-  pub dealing-start : (os ps : List ℕ) → os ≡ replicate 63 0 → ps ≡ replicate 63 0 → Dealing s 0 os ps
-  dealing-start os ps o q = record {
+module _ (s : Site) (n : ℕ) (counts : List ℕ) where
+  pub dealing-start : n ≡ used (s .links) → Counted (s .parents) n counts → (os ps : List ℕ) → os ≡ replicate 63 0 → ps ≡ replicate 63 0
+      → Dealing s n counts 0 os ps
+  dealing-start u c os ps o q = record {
+    all = u;
+    links = omega (arith, used-most (s .links));
+    counted = c;
     most = omega arith;
-    links = used-most (s .links);
     passed = λ q l. absurd (omega arith);
     offsets = entered-start _ _ os o;
     periods = entered-start _ _ ps q;
   }
 
-  module _ (p : ℕ) (os ps : List ℕ) (d : Dealing s p os ps) where
-    pub dealing-end : used (s .links) < p → SlotsOf s p os ps
+  module _ (p : ℕ) (os ps : List ℕ) (d : Dealing s n counts p os ps) where
+    pub dealing-end : n < p → SlotsOf s p os ps
     unfolding firstCrowded offsetsDealt periodsDealt
     dealing-end l = record {
-      crowded = sym (first-skip _ (used (s .links) + 1) p (d .most) (d .passed) ∙ first-end (crowded s) (used (s .links) + 1) p (omega arith));
-      offsets = λ m. entered-end _ _ p os (d .offsets) l (d .most);
-      periods = λ m. entered-end _ _ p ps (d .periods) l (d .most);
+      crowded = sym (first-skip _ (used (s .links) + 1) p (omega arith) (d .passed) ∙ first-end (crowded s) (used (s .links) + 1) p (omega arith));
+      offsets = λ m. entered-end _ _ p os (d .offsets) m (omega arith);
+      periods = λ m. entered-end _ _ p ps (d .periods) m (omega arith);
     }
 
-    -- With no children under p.
-    pub dealing-none : p ≤ used (s .links) → (n : ℕ) (gaps : List ℕ) → GapsOf s p n gaps → n ≡ 0 → Dealing s (p + 1) os ps
-    unfolding crowded
-    dealing-none l n gaps g z =
-        let none : length (gapsUnder s p) ≡ 0 = omega (arith, gaps-number s p n gaps g) in
-        record {
-          most = omega arith;
-          links = d .links;
-          passed = below-more _ p (d .passed) (simp (eq-eqb _ _ none));
-          offsets = entered-skip _ _ p os (d .offsets) none;
-          periods = entered-skip _ _ p ps (d .periods) none;
-        }
+    module _ (l : p ≤ n) where
+      -- The count at p is the number of its children.
+      number : getD counts p 0 ≡ length (gapsUnder s p)
+      unfolding gapsUnder
+      number = rw (← d .all) (d .counted .each (s .gaps) p (omega arith))
 
-    -- With what the slot rule deals under p.
-    module _ (l : p ≤ used (s .links)) (b n : ℕ) (vs ws : List ℕ) (t : DealtTo s p b n vs ws) where
-      pub dealing-crowded : 0 < n → b ≡ 0 → SlotsOf s p os ps
-      unfolding firstCrowded crowded
-      dealing-crowded some z =
-          let m : length (gapsUnder s p) ≡ 0 → ⊥ = omega (arith, t .number) in
+      -- With no children under p.
+      pub dealing-none : getD counts p 0 ≡ 0 → Dealing s n counts (p + 1) os ps
+      unfolding crowded
+      dealing-none z =
+          let none : length (gapsUnder s p) ≡ 0 = omega (arith, number) in
           record {
-            crowded = sym (first-is (crowded s) (used (s .links) + 1) 0 p (omega arith) (omega arith)
-                (simp (ne-eqb _ _ m, eq-eqb _ _ (sym (t .base) ∙ z))) (d .passed));
-            offsets = λ m. absurd (omega arith);
-            periods = λ m. absurd (omega arith);
+            all = d .all;
+            links = d .links;
+            counted = d .counted;
+            most = omega arith;
+            passed = below-more _ p (d .passed) (simp (eq-eqb _ _ none));
+            offsets = entered-skip _ _ p os (d .offsets) none;
+            periods = entered-skip _ _ p ps (d .periods) none;
           }
 
-      fit : (b ≡ 0 → ⊥) → crowded s p ≡ false
-      unfolding crowded
-      fit f = go (not (eqb (length (gapsUnder s p)) 0))
-        where
-          go : (x : Bool) → x && eqb (baseUnder s p) 0 ≡ false
-          go true = ne-eqb _ _ (λ e. f (t .base ∙ e))
-          go false = refl
+      -- With what the slot rule deals under p.
+      module _ (b m : ℕ) (vs ws : List ℕ) (t : DealtTo s p b m vs ws) where
+        pub dealing-crowded : 0 < getD counts p 0 → b ≡ 0 → SlotsOf s p os ps
+        unfolding firstCrowded crowded
+        dealing-crowded some z =
+            let k : length (gapsUnder s p) ≡ 0 → ⊥ = omega (arith, number) in
+            record {
+              crowded = sym (first-is (crowded s) (used (s .links) + 1) 0 p (omega arith) (omega arith)
+                  (simp (ne-eqb _ _ k, eq-eqb _ _ (sym (t .base) ∙ z))) (d .passed));
+              offsets = λ m. absurd (omega arith);
+              periods = λ m. absurd (omega arith);
+            }
 
-      pub dealing-more : (b ≡ 0 → ⊥) → (os′ ps′ : List ℕ) → Spread s p vs os os′ → Spread s p ws ps ps′ → Dealing s (p + 1) os′ ps′
-      dealing-more fits os′ ps′ o q = record {
-        most = omega arith;
-        links = d .links;
-        passed = below-more _ p (d .passed) (fit fits);
-        offsets = entered-more _ _ p os (d .offsets) n vs (t .number) (t .offsets) os′ o;
-        periods = entered-more _ _ p ps (d .periods) n ws (t .number) (t .periods) ps′ q;
-      }
+        fit : (b ≡ 0 → ⊥) → crowded s p ≡ false
+        unfolding crowded
+        fit f = go (not (eqb (length (gapsUnder s p)) 0))
+          where
+            go : (x : Bool) → x && eqb (baseUnder s p) 0 ≡ false
+            go true = ne-eqb _ _ (λ e. f (t .base ∙ e))
+            go false = refl
+
+        pub dealing-more : (b ≡ 0 → ⊥) → (os′ ps′ : List ℕ) → Spread (s .parents) n p vs os os′ → Spread (s .parents) n p ws ps ps′
+            → Dealing s n counts (p + 1) os′ ps′
+        dealing-more fits os′ ps′ o q = record {
+          all = d .all;
+          links = d .links;
+          counted = d .counted;
+          most = omega arith;
+          passed = below-more _ p (d .passed) (fit fits);
+          offsets = entered-more _ _ p os (d .offsets) m vs (t .number) (t .offsets) os′ (rw (d .all) at o);
+          periods = entered-more _ _ p ps (d .periods) m ws (t .number) (t .periods) ps′ (rw (d .all) at q);
+        }
 
 -- What the schedule means. First its lists: as long as those of the site, a link with a parent in the site has the entry of its rank
 -- among those dealt under that parent, and entries not in use are 0.
@@ -420,15 +435,16 @@ kept-limits true x xs h each zero l = h
 kept-limits true x xs h each (suc k) l = each k (omega arith)
 kept-limits false x xs h each k l = each k l
 
-module _ (s : Site) (p : ℕ) where
-  gaps-limits : (r i : ℕ) → ((j : ℕ) → j < i + r → InLimits (getD (s .gaps) j 0))
-      → (k : ℕ) → k < length (gapsIn s p r i) → InLimits (getD (gapsIn s p r i) k 0)
+module _ (parents gaps : List ℕ) (p : ℕ) where
+  gaps-limits : (r i : ℕ) → ((j : ℕ) → j < i + r → InLimits (getD gaps j 0))
+      → (k : ℕ) → k < length (gapsFrom parents gaps p r i) → InLimits (getD (gapsFrom parents gaps p r i) k 0)
   unfolding gapsFrom
   gaps-limits zero i h k l = absurd (omega arith)
   gaps-limits (suc r) i h k l =
-      kept-limits (eqb (getD (s .parents) i 0) p) (getD (s .gaps) i 0) (gapsIn s p r (i + 1)) (h i (omega arith))
+      kept-limits (eqb (getD parents i 0) p) (getD gaps i 0) (gapsFrom parents gaps p r (i + 1)) (h i (omega arith))
       (gaps-limits r (i + 1) (λ j m. h j (omega arith))) k l
 
+module _ (s : Site) (p : ℕ) where
   abbrev zeros : List ℕ
   zeros = replicate (length (gapsUnder s p)) 0
 
@@ -445,8 +461,8 @@ module _ (s : Site) (p : ℕ) where
           offsets-long = length-replicate _ _;
           periods-long = length-replicate _ _;
           some = some;
-          few = omega (arith, gaps-length s p (used (s .links)) 0, used-most (s .links));
-          limits = gaps-limits (used (s .links)) 0 (λ j l. w .limits j (omega arith));
+          few = omega (arith, gaps-length (s .parents) (s .gaps) p (used (s .links)) 0, used-most (s .links));
+          limits = gaps-limits (s .parents) (s .gaps) p (used (s .links)) 0 (λ j l. w .limits j (omega arith));
         })
 
     pub base-under : baseUnder s p ≡ base 2 (gapsUnder s p)
