@@ -3,7 +3,6 @@
 use borrow.Author.Needs.{needs}
 use Prim.Native.Nat.{_+_, _-_}
 use mathlib.Core.Logic.{inl, inr}
-use native.Mathlib.Omega.{arith}
 use Rattle.site.specs.Sites.{used}
 use Rattle.schedule.proofs.Laws.Schedule.{gathered-all, Dealing, dealing-start, dealing-none, dealing-more, dealing-crowded, dealing-end}
 use Rattle.schedule.proofs.dealing.deal_all.Statement.{statement}
