@@ -20,7 +20,7 @@ cast-number : tie.Need-cast-number
 cast-number c = search needs
 
 returns-2 : tie.Need-returns-2
-returns-2 c = admit-limit _ _ _ _ (c .before .before .before .before .before .call-fault .ensures) (search needs) _ (c .before .before .before .flow-limits .ensures) (c .if2 .taken)
+returns-2 c = admit-limit _ _ _ _ (c .before .before .before .before .before .call-fault .ensures) (search needs) _ (c .before .before .before .flow-limits .ensures) (search needs)
 
 returns-3 : tie.Need-returns-3
 returns-3 c = admit-live _ _ _ _ (c .before .before .before .before .before .before .call-fault .ensures) (search needs) _ (c .before .before .before .before .flow-limits .ensures) (search needs) _ (c .before .before .before .is-live .ensures) (c .if3 .taken)

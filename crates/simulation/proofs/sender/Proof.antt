@@ -11,14 +11,14 @@ returns : tie.Need-returns
 returns c = sender-site _ _ _ _ (c .before .passes .ensures) (c .if1 .taken)
 
 returns-2 : tie.Need-returns-2
-returns-2 c = sender-parent _ _ _ _ (c .before .before .before .passes .ensures) (c .before .before .if1 .left) (c .if2 .taken)
+returns-2 c = sender-parent _ _ _ _ (c .before .before .before .passes .ensures) (c .before .before .if1 .left) (search needs)
 
 sending-child-requires : tie.Need-sending-child-requires
 sending-child-requires c κs = search needs
 
 returns-3 : tie.Need-returns-3
 returns-3 c =
-    sender-found _ _ _ _ (c .before .before .before .before .passes .ensures) (c .before .before .before .if1 .left) _ (c .before .if2 .left)
+    sender-found _ _ _ _ (c .before .before .before .before .passes .ensures) (c .before .before .before .if1 .left) _ (search needs)
     (c .sending-child .ensures)
 
 pub sender-spec : {M : Type 1} → statement M

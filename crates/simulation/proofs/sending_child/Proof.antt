@@ -43,7 +43,7 @@ cast-result : tie.Need-cast-result Inv-loop μ-loop
 cast-result c = omega (arith, look-most _ _ _ _ (c .before .before .before .before .before .before .before .loop .inv))
 
 returns : tie.Need-returns Inv-loop μ-loop
-returns c = look-here _ _ _ _ (c .before .before .before .before .before .before .before .loop .inv) (search needs) (c .before .before .before .before .if1 .taken) _ (c .before .sends-in .ensures) (c .if2 .taken)
+returns c = look-here _ _ _ _ (c .before .before .before .before .before .before .before .loop .inv) (search needs) (search needs) _ (c .before .sends-in .ensures) (c .if2 .taken)
 
 sub-node : tie.Need-sub-node Inv-loop μ-loop
 sub-node c = search needs
