@@ -44,7 +44,7 @@ fn show_case(line: &[u8], site: Site) {
     let room = test_text::next_number(line, 0);
     let n = room.value;
     let mut out = numbered();
-    let next = test_text::altered(site, line, room.next);
+    let next = test_sites::altered(site, line, room.next);
     if n <= 64 {
         show(next, &mut out[..n]);
     }
@@ -53,7 +53,7 @@ fn show_case(line: &[u8], site: Site) {
 // Answers the site to be altered from here on.
 fn show_line(line: &[u8], site: Site) -> Site {
     if test_text::begins(line, b'P') {
-        return test_text::read_site(line);
+        return test_sites::read_site(line);
     }
     if !test_text::echo(line) {
         show_case(line, site);

@@ -203,8 +203,8 @@ fn show_line(line: &[u8], live: Live) -> Live {
     }
     let mark = line[0];
     match mark {
-        b'P' => with_site(live, test_text::read_site(line)),
-        b'X' => with_site(live, test_text::altered(live.site, line, 0)),
+        b'P' => with_site(live, test_sites::read_site(line)),
+        b'X' => with_site(live, test_sites::altered(live.site, line, 0)),
         b'C' => with_counters(live, given(line)),
         b'A' | b'R' => call(line, live),
         b'L' => {

@@ -1,7 +1,6 @@
-// What the test programs share: lines of text with plans in hexadecimal or numbers in decimal, sites that such lines change, and what they print.
-use site::Site;
+// What the test programs share: lines of text with plans in hexadecimal or numbers in decimal, and what they print.
 use writer::Written;
-ghost use Prim.Native.Nat.{_≤_, _<_, min};
+ghost use Prim.Native.Nat.{_%_, _≤_, _<_, min};
 ghost use mathlib.Core.Path.{_≡_};
 ghost use lib.ListN.{length};
 
@@ -187,83 +186,22 @@ pub fn next_number(line: &[u8], start: usize) -> Number
 }
 
 // The low 8, 16 and 32 bits of a number.
-pub fn low8(value: usize) -> u8 {
+pub fn low8(value: usize) -> u8
+    ensures { λ r. ⌜ r ≡ value % 256 ⌝ }
+{
     (value % 256) as u8
 }
 
-pub fn low16(value: usize) -> u16 {
+pub fn low16(value: usize) -> u16
+    ensures { λ r. ⌜ r ≡ value % 65536 ⌝ }
+{
     (value % 65536) as u16
 }
 
-pub fn low32(value: usize) -> u32 {
+pub fn low32(value: usize) -> u32
+    ensures { λ r. ⌜ r ≡ value % 4294967296 ⌝ }
+{
     (value % 4294967296) as u32
-}
-
-// The largest value of a field's entries: links, parents, states, entry nodes and rates have 8 bits.
-fn largest(field: usize) -> usize {
-    match field {
-        0 | 1 | 6 | 7 | 8 => 255,
-        _ => 65535,
-    }
-}
-
-// The site with one entry changed, or as it is where the field has no such entry or the value is too large. Field 0 is a single number: its
-// index plays no part.
-fn changed(site: Site, field: usize, index: usize, value: usize) -> Site {
-    let mut next = site;
-    if largest(field) < value {
-        return next;
-    }
-    let byte = low8(value);
-    let word = low16(value);
-    if field == 0 {
-        next.links = byte;
-    }
-    if index < 63 {
-        match field {
-            1 => next.parents[index] = byte,
-            2 => next.capacities[index] = word,
-            3 => next.gaps[index] = word,
-            4 => next.offsets[index] = word,
-            5 => next.periods[index] = word,
-            _ => {}
-        }
-    }
-    if index < 64 {
-        match field {
-            6 => next.states[index] = byte,
-            7 => next.entries[index] = byte,
-            8 => next.rates[index] = byte,
-            9 => next.deadlines[index] = word,
-            _ => {}
-        }
-    }
-    next
-}
-
-// The site with all the changes of a line made in turn; the last one is passed over if it is not complete.
-pub fn altered(site: Site, line: &[u8], start: usize) -> Site {
-    let mut next = site;
-    let mut at = start;
-    while at < line.len() {
-        let field = next_number(line, at);
-        let index = next_number(line, field.next);
-        let value = next_number(line, index.next);
-        if value.found {
-            let more = changed(next, field.value, index.value, value.value);
-            next = more;
-        }
-        at = value.next;
-    }
-    next
-}
-
-// The site that the plan of the line reads to.
-pub fn read_site(line: &[u8]) -> Site {
-    let mut bytes = plan_space();
-    let n = parse_hex(line, &mut bytes);
-    let read = reader::read_plan(&bytes[..n]);
-    read.site
 }
 
 fn glyph(digit: u8) -> u8

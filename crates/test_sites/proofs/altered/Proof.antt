@@ -3,8 +3,8 @@ use borrow.Author.Needs.{needs}
 use Prim.Native.Nat.{_-_}
 use lib.ListN.{length}
 use native.Mathlib.Omega.{arith}
-use Rattle.test_text.proofs.altered.Statement.{statement}
-use Rattle.test_text.proofs.altered.Tie as tie
+use Rattle.test_sites.proofs.altered.Statement.{statement}
+use Rattle.test_sites.proofs.altered.Tie as tie
 
 abbrev Inv-loop : tie.InvT-loop
 Inv-loop line start next₀ at₀ next at = Unit {0}

@@ -2,8 +2,8 @@
 use borrow.Author.Needs.{needs}
 use lib.ListN.{length-take}
 use native.Mathlib.Omega.{arith}
-use Rattle.test_text.proofs.read_site.Statement.{statement}
-use Rattle.test_text.proofs.read_site.Tie as tie
+use Rattle.test_sites.proofs.read_site.Statement.{statement}
+use Rattle.test_sites.proofs.read_site.Tie as tie
 
 plan-space-requires : tie.Need-plan-space-requires
 plan-space-requires c κs = search needs
