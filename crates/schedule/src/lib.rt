@@ -13,7 +13,7 @@ pub enum Verdict {
     Refused(u8, usize),
 }
 
-// The verdict of a judgement or a reading, and the site that it gives.
+// The verdict of a judgement, a reading or a change, and the site that it gives.
 pub struct Judged {
     pub verdict: Verdict,
     pub site: Site,
