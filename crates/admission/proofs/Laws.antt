@@ -27,14 +27,14 @@ use Rattle.limits.proofs.Laws.{passes-sound, call-when, call-first, flow-first,
 use Rattle.limits.proofs.Laws.Forms.{flow-good}
 use Rattle.counters.specs.Blocks.{cellsOf, withCells, zeros}
 use Rattle.counters.proofs.Laws.{length-with, block-same, block-other, length-zeros}
-use Rattle.admission.specs.Calls.{Ruling, change, unfitLink, admitRuling, admitOf, releaseRuling, releaseOf}
-use Rattle.admission.specs.Words.{links, Admissible, Releasable, admissionChecks, releaseChecks}
+use Rattle.admission.specs.Calls.{Ruling, change, routeFor, unfitLink, admitRuling, admitOf, releaseRuling, releaseOf}
+use Rattle.admission.specs.Words.{Admissible, Releasable, admissionChecks, releaseChecks}
 use Rattle.admission.proofs.Laws.Answers.{admit-passes, release-passes}
 use Rattle.admission.proofs.Laws.Again.{again-site, again-admissible}
 
 -- 17 finds nothing just when the width fits on every link of the route.
-route-room : (s : Site) (f : Flow) → (unfitLink s f ≡ 0) ↔ RoomAlong s (f .rate) (links s f)
-route-room s f = room-when s (f .rate) (links s f) (route-some (s .parents) (f .entry))
+route-room : (s : Site) (f : Flow) → (unfitLink s f ≡ 0) ↔ RoomAlong s (f .rate) (routeFor s f)
+route-room s f = room-when s (f .rate) (routeFor s f) (route-some (s .parents) (f .entry))
 
 -- An admission is accepted just when it is as the words say.
 pub admits-when : (s : Site) (counters : List ℕ) (f : Flow) → (admitRuling s counters f ≡ accepted tt) ↔ Admissible s counters f
@@ -44,7 +44,7 @@ admits-when s counters f = (
       let b = checked-past (flowLimits (s .links) 0 f) _ (a .1) in
       let c = past (live s (f .number)) 15 (f .number) _ (b .1) in
       let d = past (not (eqb (unfitLink s f) 0)) 17 (unfitLink s f) _ (c .1) in
-      let g = past (ltb (f .deadline) (along (gapsJudged s) (links s f))) 18 (f .number) _ (d .1) in
+      let g = past (ltb (f .deadline) (along (gapsJudged s) (routeFor s f))) 18 (f .number) _ (d .1) in
       let call = call-when s counters .0 (a .0) in
       record {
         counted = call .0;
@@ -87,19 +87,19 @@ unfolding admitRuling
 admits-first s counters f o =
     call-first nothing o _ _ s counters (flow-first nothing o _ _ (s .links) f
     (ruled-test nothing o (live s (f .number)) 15 (f .number) _ _ _ (λ e. e, λ e. e)
-    (λ _. ruled-check nothing o (not (eqb (unfitLink s f) 0)) 17 (unfitLink s f) (λ p. UnfitAt s (f .rate) (links s f) p) _ _
-    (λ e. unfit-when s (f .rate) (links s f) (unfitLink s f) (some e) .0 refl)
-    (λ p w. unfit p w (unfit-when s (f .rate) (links s f) p (above p w) .1 w))
-    (λ _. ruled-test nothing o (ltb (f .deadline) (along (gapsJudged s) (links s f))) 18 (f .number) _ none _ (ltb-true _ _, lt-ltb _ _)
+    (λ _. ruled-check nothing o (not (eqb (unfitLink s f) 0)) 17 (unfitLink s f) (λ p. UnfitAt s (f .rate) (routeFor s f) p) _ _
+    (λ e. unfit-when s (f .rate) (routeFor s f) (unfitLink s f) (some e) .0 refl)
+    (λ p w. unfit p w (unfit-when s (f .rate) (routeFor s f) p (above p w) .1 w))
+    (λ _. ruled-test nothing o (ltb (f .deadline) (along (gapsJudged s) (routeFor s f))) 18 (f .number) _ none _ (ltb-true _ _, lt-ltb _ _)
     (λ _. ruled-end nothing o tt tt (λ b w. refl))))))
   where
     some : not (eqb (unfitLink s f) 0) ≡ true → 1 ≤ unfitLink s f
     some e = let n = eqb-false (unfitLink s f) 0 (not-true _ e) in omega (arith, n)
 
-    above : (p : ℕ) → UnfitAt s (f .rate) (links s f) p → 1 ≤ p
+    above : (p : ℕ) → UnfitAt s (f .rate) (routeFor s f) p → 1 ≤ p
     above p w = rw (w .link .1) at (route-some (s .parents) (f .entry) (w .at) (w .link .0))
 
-    unfit : (p : ℕ) → UnfitAt s (f .rate) (links s f) p → unfitLink s f ≡ p → (not (eqb (unfitLink s f) 0) ≡ true) × (p ≡ unfitLink s f)
+    unfit : (p : ℕ) → UnfitAt s (f .rate) (routeFor s f) p → unfitLink s f ≡ p → (not (eqb (unfitLink s f) 0) ≡ true) × (p ≡ unfitLink s f)
     unfit p w e = let l = above p w in let n : unfitLink s f ≡ 0 → ⊥ = λ z. omega (arith, l, e, z) in (simp (ne-eqb _ _ n), sym e)
 
 -- So is a release.
@@ -169,9 +169,9 @@ cells-after counters n long few =
 -- A site that passes check 14 passes it after an accepted admission. (After a release it does by `flow-taken` of crate `limits`.)
 pub admitted-passes : (s : Site) (counters : List ℕ) (f : Flow) → Admissible s counters f → passesOf (withFlow s f) ≡ true
 admitted-passes s counters f w =
-    flow-added s (passes-sound s .1 (w .sound)) f (w .free) (w .good) (λ m h. fits m (has-when m (links s f) .0 h)) (w .time)
+    flow-added s (passes-sound s .1 (w .sound)) f (w .free) (w .good) (λ m h. fits m (has-when m (routeFor s f) .0 h)) (w .time)
   where
-    fits : (m : ℕ) → (j : ℕ) × (j < length (links s f)) × (getD (links s f) j 0 ≡ m) → HasRoom s (f .rate) m
+    fits : (m : ℕ) → (j : ℕ) × (j < length (routeFor s f)) × (getD (routeFor s f) j 0 ≡ m) → HasRoom s (f .rate) m
     fits m (j, l, e) = rw e at (w .room .each j l)
 
 -- What was released can be admitted again, with any 576 counters: it is accepted, and the site is the one before the release.

@@ -21,18 +21,22 @@ Ruling = Outcome (Unit {0})
 unfoldable pub change : Ruling → Site → Site → List ℕ → List ℕ → Ruling × Site × List ℕ
 change r next s new counters = (r, settled r next s, settled r new counters)
 
+-- The route that the flow would have.
+abbrev pub routeFor : Site → Flow → List ℕ
+routeFor s f = route (s .parents) (f .entry)
+
 -- 01, 17: the first link going up on which the flow's width does not fit, 0 where there is none.
 abbrev pub unfitLink : Site → Flow → ℕ
-unfitLink s f = firstUnfit s (f .rate) (route (s .parents) (f .entry))
+unfitLink s f = firstUnfit s (f .rate) (routeFor s f)
 
--- 01, the order of an admission's checks: 1, 14, 5, 6, 15, 17, 18. A FLOW's own limits are its 5 and 6, for which any number is above the last.
+-- 01, the order of an admission's checks: 1, 14, 5, 6, 15, 17, 18. 5 and 6 are those of a FLOW; a call has no last number that its own must be above.
 unfoldable pub admitRuling : Site → List ℕ → Flow → Ruling
 admitRuling s counters f =
     checked (callFault s counters)
     (checked (flowLimits (s .links) 0 f)
     (cond (live s (f .number)) (refused 15 (f .number))
     (cond (not (eqb (unfitLink s f) 0)) (refused 17 (unfitLink s f))
-    (cond (ltb (f .deadline) (along (gapsJudged s) (route (s .parents) (f .entry)))) (refused 18 (f .number))
+    (cond (ltb (f .deadline) (along (gapsJudged s) (routeFor s f))) (refused 18 (f .number))
     (accepted tt)))))
 
 -- 01: admission makes the flow live and sets the nine cells that belong to it to 0.

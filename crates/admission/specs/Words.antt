@@ -8,14 +8,10 @@ use Rattle.pinwheel.specs.Outcome.{Checks, none, check}
 use Rattle.site.specs.declared.Site.{Site}
 use Rattle.site.specs.declared.Flow.{Flow}
 use Rattle.site.specs.Sites.{live}
-use Rattle.site.specs.Tree.{route}
 use Rattle.site.specs.Reservations.{gapsJudged, along}
 use Rattle.site.specs.Words.{RoomAlong, UnfitAt}
 use Rattle.limits.specs.Words.{FlowGood, Sound, callChecks, flowChecks}
-
--- The links of the flow's route.
-abbrev pub links : Site → Flow → List ℕ
-links s f = route (s .parents) (f .entry)
+use Rattle.admission.specs.Calls.{routeFor}
 
 -- 01: a flow is admitted where there are 576 counters, the site is one that check 14 lets pass, the flow's operands are within their limits, it enters at
 -- one of the nodes, its number is not live, on each link of its route the live widths and its own are together within the capacity, and the
@@ -25,8 +21,8 @@ pub record Admissible (s : Site) (counters : List ℕ) (f : Flow) : Type 0 where
   pub sound : Sound s
   pub good : FlowGood (s .links) 0 f
   pub free : live s (f .number) ≡ false
-  pub room : RoomAlong s (f .rate) (links s f)
-  pub time : along (gapsJudged s) (links s f) ≤ f .deadline
+  pub room : RoomAlong s (f .rate) (routeFor s f)
+  pub time : along (gapsJudged s) (routeFor s f) ≤ f .deadline
 
 -- 01: a flow is released where there are 576 counters, the site is one that check 14 lets pass, and the number is one of the 64 and live.
 pub record Releasable (s : Site) (counters : List ℕ) (n : ℕ) : Type 0 where
@@ -41,8 +37,8 @@ admissionChecks s counters f =
     callChecks s counters
     (flowChecks (s .links) f
     (check 15 (λ p. (live s (f .number) ≡ true) × (p ≡ f .number))
-    (check 17 (λ p. UnfitAt s (f .rate) (links s f) p)
-    (check 18 (λ p. (f .deadline < along (gapsJudged s) (links s f)) × (p ≡ f .number))
+    (check 17 (λ p. UnfitAt s (f .rate) (routeFor s f) p)
+    (check 18 (λ p. (f .deadline < along (gapsJudged s) (routeFor s f)) × (p ≡ f .number))
     none))))
 
 -- 01, the order of a release's checks: 1, 14, 5, 16.

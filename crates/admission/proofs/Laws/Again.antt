@@ -17,7 +17,8 @@ use Rattle.site.proofs.Laws.Reservations.{width-live, live-here, load-taken}
 use Rattle.limits.specs.Check.{flowOf}
 use Rattle.limits.specs.Words.{Sound}
 use Rattle.limits.proofs.Laws.Flows.{live-fits, live-few, sound-without}
-use Rattle.admission.specs.Words.{links, Admissible}
+use Rattle.admission.specs.Calls.{routeFor}
+use Rattle.admission.specs.Words.{Admissible}
 
 -- The fields of a live flow, put back where they were.
 pub again-site : (s : Site) (n : ℕ) → live s n ≡ true → withFlow (withoutFlow s n) (flowOf s n) ≡ s
@@ -43,7 +44,7 @@ module _ (s : Site) (w : Sound s) (n : ℕ) (l : live s n ≡ true) where
         w .carried .within m (on .0) (omega (arith, on .1, live-fits s (w .formed) n l .entry-most)),
       )
 
-  again-room : RoomAlong (withoutFlow s n) (flowOf s n .rate) (links (withoutFlow s n) (flowOf s n))
+  again-room : RoomAlong (withoutFlow s n) (flowOf s n .rate) (routeFor (withoutFlow s n) (flowOf s n))
   unfolding withoutFlow flowOf routeOf gapsJudged
   again-room = record { each = λ j h. again-fits _ (has-when _ (routeOf s n) .1 (j, h, refl)) }
 

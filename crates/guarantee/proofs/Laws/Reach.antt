@@ -3,7 +3,7 @@ use Prim.Native.Nat.{ℕ, zero, suc, _+_, _-_, _≤_, _<_}
 use mathlib.Core.Path.{_≡_, refl, sym, _∙_, ap}
 use mathlib.Core.Bool.{Bool, true, false, cond}
 use mathlib.Core.List.{List, _∷_}
-use lib.ListN.{length, getD, set}
+use lib.ListN.{length, getD, set, replicate}
 use lib.Seq.{set-set, set-getD}
 use native.Mathlib.Numerals.{add-one}
 use native.Mathlib.Omega.{arith}
@@ -32,35 +32,24 @@ unfoldable pub flowsBelow : ℕ → Site → Site
 flowsBelow k s = withFlows s (upto k (s .states)) (upto k (s .entries)) (upto k (s .rates)) (upto k (s .deadlines))
 
 module _ (s : Site) (long : Shape s) where
+  -- What makes the same of every list of 64 entries makes the same of a site's flows.
+  flows-same : (f g : List ℕ → List ℕ) → ((xs : List ℕ) → length xs ≡ 64 → f xs ≡ g xs)
+      → withFlows s (f (s .states)) (f (s .entries)) (f (s .rates)) (f (s .deadlines))
+      ≡ withFlows s (g (s .states)) (g (s .entries)) (g (s .rates)) (g (s .deadlines))
+  flows-same f g e =
+      rw (e (s .states) (long .states), e (s .entries) (long .entries), e (s .rates) (long .rates), e (s .deadlines) (long .deadlines))
+
   below-less : (k : ℕ) → k < 64 → withoutFlow (flowsBelow (k + 1) s) k ≡ flowsBelow k s
   unfolding withoutFlow flowsBelow
-  below-less k l =
-      rw (
-        upto-less (s .states) k (omega (arith, long .states)),
-        upto-less (s .entries) k (omega (arith, long .entries)),
-        upto-less (s .rates) k (omega (arith, long .rates)),
-        upto-less (s .deadlines) k (omega (arith, long .deadlines)),
-      )
+  below-less k l = flows-same (λ xs. set (upto (k + 1) xs) k 0) (upto k) (λ xs e. upto-less xs k (omega arith))
 
   pub below-none : flowsBelow 0 s ≡ nodesAlone s
   unfolding flowsBelow
-  below-none =
-      rw (
-        upto-zeros (s .states) 64 (long .states),
-        upto-zeros (s .entries) 64 (long .entries),
-        upto-zeros (s .rates) 64 (long .rates),
-        upto-zeros (s .deadlines) 64 (long .deadlines),
-      )
+  below-none = flows-same (upto 0) (λ xs. replicate 64 0) (λ xs e. upto-zeros xs 64 e)
 
   pub below-all : flowsBelow 64 s ≡ s
   unfolding flowsBelow
-  below-all =
-      rw (
-        upto-full (s .states) 64 (long .states),
-        upto-full (s .entries) 64 (long .entries),
-        upto-full (s .rates) 64 (long .rates),
-        upto-full (s .deadlines) 64 (long .deadlines),
-      )
+  below-all = flows-same (upto 64) (λ xs. xs) (λ xs e. upto-full xs 64 e)
 
   -- At its own number such a site has the flow that the whole site has.
   below-live : (k : ℕ) → k < 64 → live (flowsBelow (k + 1) s) k ≡ live s k
