@@ -11,7 +11,7 @@ use lib.Dec.{eqb, ltb}
 use lib.ListN.{length, getD}
 use borrow.Author.Tests.{lt-ltb, ne-eqb, ltb-true, ltb-false, eqb-true, eqb-false, not-true, not-false}
 use native.Mathlib.Omega.{arith}
-use Rattle.pinwheel.specs.Outcome.{accepted, refused, settled, none, Ruled}
+use Rattle.pinwheel.specs.Outcome.{Ruling, accepted, refused, settled, none, Ruled, nothing}
 use Rattle.pinwheel.proofs.Laws.Outcomes.{past, checked-past, settled-accepted, settled-refused, ruled-check, ruled-test, ruled-end}
 use Rattle.site.specs.declared.Site.{Site}
 use Rattle.site.specs.declared.Flow.{Flow}
@@ -27,7 +27,7 @@ use Rattle.limits.proofs.Laws.{passes-sound, call-when, call-first, flow-first,
 use Rattle.limits.proofs.Laws.Forms.{flow-good}
 use Rattle.counters.specs.Blocks.{cellsOf, withCells, zeros}
 use Rattle.counters.proofs.Laws.{length-with, block-same, block-other, length-zeros}
-use Rattle.admission.specs.Calls.{Ruling, change, routeFor, unfitLink, admitRuling, admitOf, releaseRuling, releaseOf}
+use Rattle.admission.specs.Calls.{change, routeFor, unfitLink, admitRuling, admitOf, releaseRuling, releaseOf}
 use Rattle.admission.specs.Words.{Admissible, Releasable, admissionChecks, releaseChecks}
 use Rattle.admission.proofs.Laws.Answers.{admit-passes, release-passes}
 use Rattle.admission.proofs.Laws.Again.{again-site, again-admissible}
@@ -76,10 +76,6 @@ releases-when s counters n = (
 
 pub released-cells : (s : Site) (counters : List ℕ) (n : ℕ) → releaseRuling s counters n ≡ accepted tt → 9 * n + 9 ≤ length counters
 released-cells s counters n e = let w = releases-when s counters n .0 e in omega (arith, w .counted, w .few)
-
--- Every answer, by the first check that fails. An accepted call gives nothing but its acceptance.
-abbrev nothing : Unit {0} → Type 0
-nothing a = Unit {0}
 
 -- An admission is refused by the first check that fails, with its place, and accepted where none fails.
 pub admits-first : (s : Site) (counters : List ℕ) (f : Flow) (o : Ruling) → (admitRuling s counters f ≡ o) ↔ Ruled nothing (admissionChecks s counters f) o

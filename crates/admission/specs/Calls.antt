@@ -3,7 +3,7 @@ use Prim.Native.Nat.{ℕ}
 use mathlib.Core.Bool.{not, cond}
 use mathlib.Core.List.{List}
 use lib.Dec.{eqb, ltb}
-use Rattle.pinwheel.specs.Outcome.{Outcome, accepted, refused, checked, settled}
+use Rattle.pinwheel.specs.Outcome.{Ruling, accepted, refused, checked, settled}
 use Rattle.site.specs.declared.Site.{Site}
 use Rattle.site.specs.declared.Flow.{Flow}
 use Rattle.site.specs.Sites.{live, withFlow, withoutFlow}
@@ -12,10 +12,6 @@ use Rattle.site.specs.Reservations.{gapsJudged, firstUnfit, along}
 use Rattle.limits.specs.Limits.{flowLimits}
 use Rattle.limits.specs.Check.{callFault}
 use Rattle.counters.specs.Blocks.{withCells, zeros}
-
--- Accepted, or refused with a number and a place.
-abbrev pub Ruling : Type 0
-Ruling = Outcome (Unit {0})
 
 -- 01: a refused change gives the old site and leaves the counters as they were, whatever refused it.
 unfoldable pub change : Ruling → Site → Site → List ℕ → List ℕ → Ruling × Site × List ℕ

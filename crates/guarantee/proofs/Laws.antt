@@ -8,7 +8,7 @@ use mathlib.Core.Bool.{true}
 use mathlib.Core.List.{List, [], _∷_, _++_, map}
 use lib.ListN.{length}
 use native.Mathlib.Omega.{arith}
-use Rattle.pinwheel.specs.Outcome.{accepted, refused}
+use Rattle.pinwheel.specs.Outcome.{Ruling, accepted, refused}
 use Rattle.site.specs.declared.Site.{Site}
 use Rattle.site.specs.Sites.{withoutFlow}
 use Rattle.limits.specs.Check.{flowOf, passesOf}
@@ -17,7 +17,7 @@ use Rattle.limits.proofs.Laws.Flows.{live-fits}
 use Rattle.plan.proofs.Laws as plan
 use Rattle.reader.specs.Read.{readOf}
 use Rattle.writer.specs.Write.{flowBytes, flowIfLive, planBytes}
-use Rattle.admission.specs.Calls.{Ruling, admitOf, releaseOf}
+use Rattle.admission.specs.Calls.{admitOf, releaseOf}
 use Rattle.admission.proofs.Laws.{admit-accepted, admit-refused, release-accepted, release-refused, admitted-passes}
 use Rattle.guarantee.specs.Runs.{Call, admit, release, State, Promise, Log, Run, none, then, admissions}
 use Rattle.guarantee.specs.Words.{Exchanged, bytesBefore, bytesBehind, nodesAlone}

@@ -3,12 +3,12 @@ use Prim.Native.Nat.{ℕ, zero, suc}
 use mathlib.Core.Path.{_≡_}
 use mathlib.Core.Bool.{cond}
 use mathlib.Core.List.{List, [], _∷_}
-use Rattle.pinwheel.specs.Outcome.{accepted}
+use Rattle.pinwheel.specs.Outcome.{Ruling, accepted}
 use Rattle.site.specs.declared.Site.{Site}
 use Rattle.site.specs.declared.Flow.{Flow}
 use Rattle.site.specs.Sites.{live}
 use Rattle.limits.specs.Check.{flowOf}
-use Rattle.admission.specs.Calls.{Ruling, admitOf, releaseOf}
+use Rattle.admission.specs.Calls.{admitOf, releaseOf}
 
 -- The calls that change a site.
 pub data Call : Type 0 where

@@ -10,7 +10,8 @@ use Rattle.site.specs.Sites.{withFlows}
 use Rattle.limits.specs.Check.{passesOf}
 use Rattle.format.specs.Words.{Bytes}
 use Rattle.reader.specs.Read.{readOf}
-use Rattle.writer.specs.Write.{nodeBytes, flowIfLive, joined, planBytes}
+use Rattle.writer.specs.Write.{nodeBytes, flowIfLive, planBytes}
+use Rattle.pinwheel.specs.Search.{joined}
 
 -- 01's demand 2: check 14 lets the site pass, its plan bytes read to it where it has links, and no others do.
 pub record Exchanged (s : Site) : Type 0 where

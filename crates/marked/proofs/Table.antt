@@ -1,7 +1,7 @@
 -- The definitions that the promises cite give every row of the table.
 use mathlib.Core.Path.{refl}
 use Rattle.pinwheel.specs.Outcome.{checked, settled}
-use Rattle.pinwheel.specs.Search.{last, first, any, total, largest, least, smallest}
+use Rattle.pinwheel.specs.Search.{last, first, any, total, largest, least, smallest, joined}
 use Rattle.pinwheel.specs.Rule.{exponent, period, sum, limit, fits, base, periodsOf}
 use Rattle.pinwheel.specs.Rule.{sends, earlier, taken, freeOffset, turn, level, levels, offsetsFor, offsetsOf}
 use Rattle.pinwheel.specs.Deal.{badGap, firstBad, dealt}
@@ -17,7 +17,7 @@ use Rattle.format.specs.Commands.{sizeOf}
 use Rattle.format.specs.Bytes.{numberAt, bytesOf}
 use Rattle.reader.specs.Read.{nodeAt, flowAt, nodeFault, flowFault, fault}
 use Rattle.reader.specs.Read.{withNode, nodeAdded, flowAdded, after, endOf, decodeFrom, decode, judgeForm, readOf}
-use Rattle.writer.specs.Write.{linkBytes, joined, scheduleBytes, written, siteFault, writtenIf}
+use Rattle.writer.specs.Write.{linkBytes, scheduleBytes, written, siteFault, writtenIf}
 use Rattle.limits.specs.Check.{shaped, nodeOf, flowOf, illNode, illFlow, firstIllNode, firstIllFlow, formed, same, accepts, stands, passesOf, callFault}
 use Rattle.counters.specs.Blocks.{block, withBlock, withCells, zeros}
 use Rattle.admission.specs.Calls.{change, admitRuling, admitOf}

@@ -4,7 +4,7 @@ use Prim.Native.Nat.{ℕ, _+_}
 use mathlib.Core.Path.{_≡_}
 use mathlib.Core.List.{List, [], _∷_, _++_}
 use lib.ListN.{length, replicate}
-use Rattle.pinwheel.specs.Outcome.{Outcome, accepted, refused}
+use Rattle.pinwheel.specs.Outcome.{Outcome, Ruling, accepted, refused}
 use Rattle.pinwheel.specs.Deal.{dealt}
 use Rattle.site.specs.declared.Site.{Site}
 use Rattle.site.specs.declared.Flow.{Flow}
@@ -13,20 +13,20 @@ use Rattle.schedule.specs.Schedule.{listed}
 use Rattle.schedule.specs.Judge.{withSite}
 use Rattle.reader.specs.Read.{readOf}
 use Rattle.writer.specs.Write.{scheduleBytes, writtenIf}
-use Rattle.admission.specs.Calls.{Ruling, admitOf}
+use Rattle.admission.specs.Calls.{admitOf}
 
 pub data Row : Type 0 where
   -- The slot rule called alone on these gaps and on lists with these offsets and periods: outcome, offsets, periods.
   deals : List ℕ → List ℕ → List ℕ → Outcome ℕ × List ℕ × List ℕ → Row
   -- A plan's bytes, and what their reading answers and the site that it gives.
-  reads : List ℕ → Outcome (Unit {0}) × Site → Row
+  reads : List ℕ → Ruling × Site → Row
   -- A plan's bytes and those of its schedule.
   schedules : List ℕ → List ℕ → Row
   -- A plan's bytes, counters and a flow, and what admitting it on the site read answers, the site that it gives and the counters then.
   admits : List ℕ → List ℕ → Flow → Ruling × Site × List ℕ → Row
 
 -- What is written of the schedule of the site that a plan reads to.
-abbrev scheduleOf : Outcome (Unit {0}) × Site → List ℕ → Outcome ℕ × List ℕ
+abbrev scheduleOf : Ruling × Site → List ℕ → Outcome ℕ × List ℕ
 scheduleOf (verdict, s) out = writtenIf s (scheduleBytes (s .links) (s .offsets) (s .periods)) out
 
 -- Plan P, with the low byte of link 3's capacity and that of flow 0's deadline left open.

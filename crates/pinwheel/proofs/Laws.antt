@@ -2,6 +2,7 @@
 pub mod Outcomes
 pub mod Search
 pub mod Lists
+pub mod Items
 pub mod Periods
 pub mod Bases
 pub mod Counting

@@ -10,6 +10,10 @@ pub data Outcome (A : Type 0) : Type 0 where
   accepted : A → Outcome A
   refused : ℕ → ℕ → Outcome A
 
+-- Accepted, or refused with a number and a place: the outcome of a call that gives nothing besides.
+abbrev pub Ruling : Type 0
+Ruling = Outcome (Unit {0})
+
 -- A check that tells the number of what fails, 0 where nothing does, and has place 0; then the checks behind it.
 unfoldable pub checked : {A : Type 0} → ℕ → Outcome A → Outcome A
 checked number others = cond (eqb number 0) others (refused number 0)
@@ -29,3 +33,7 @@ pub data Checks : Type 1 where
 unfoldable pub Ruled : {A : Type 0} → (A → Type 0) → Checks → Outcome A → Type 0
 Ruled {A = A} gives none o = (a : A) × (o ≡ accepted a) × gives a
 Ruled gives (check number fails rest) o = ((p : ℕ) × (o ≡ refused number p) × fails p) ⊎ (((p : ℕ) → fails p → ⊥) × Ruled gives rest o)
+
+-- An accepted call gives nothing but its acceptance.
+abbrev pub nothing : Unit {0} → Type 0
+nothing a = Unit {0}

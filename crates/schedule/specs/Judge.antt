@@ -2,7 +2,7 @@
 use Prim.Native.Nat.{_+_}
 use mathlib.Core.Bool.{cond}
 use lib.Dec.{ltb, leb}
-use Rattle.pinwheel.specs.Outcome.{Outcome, accepted, refused}
+use Rattle.pinwheel.specs.Outcome.{Outcome, Ruling, accepted, refused}
 use Rattle.site.specs.declared.Site.{Site}
 use Rattle.schedule.specs.declared.Verdict.{Verdict}
 use Rattle.schedule.specs.declared.Verdict.the-variants.{Accepted, Refused}
@@ -11,12 +11,12 @@ use Rattle.schedule.specs.Schedule.{firstCrowded, scheduled}
 use Rattle.site.specs.Reservations.{firstOver, firstLate}
 
 -- What each case of a verdict says in 01's terms; the site stands beside it.
-abbrev pub ruling : Verdict → Outcome (Unit {0})
+abbrev pub ruling : Verdict → Ruling
 ruling Accepted = accepted tt
 ruling (Refused number place) = refused number place
 
 -- 01: a refused reading comes with the empty site.
-unfoldable pub withSite : Outcome Site → Outcome (Unit {0}) × Site
+unfoldable pub withSite : Outcome Site → Ruling × Site
 withSite (accepted s) = (accepted tt, s)
 withSite (refused number place) = (refused number place, emptySite)
 

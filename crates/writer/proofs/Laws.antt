@@ -1,6 +1,5 @@
 -- What is proved of the writers by themselves: a LINK tells its node, offset and period. The modules named here hold the lemmas; crate `plan` has what plan
 -- bytes mean.
-pub mod Items
 pub mod Write
 use Prim.Native.Nat.{ℕ, _+_, _<_}
 use mathlib.Core.Path.{_≡_}

@@ -1,10 +1,11 @@
 -- What the writers put into a borrowed slice.
-use Prim.Native.Nat.{ℕ, zero, suc, _+_}
+use Prim.Native.Nat.{ℕ, _+_}
 use mathlib.Core.Bool.{cond}
 use mathlib.Core.List.{List, [], _∷_, _++_}
 use lib.Dec.{eqb, ltb}
 use lib.ListN.{length, getD, drop}
 use Rattle.pinwheel.specs.Outcome.{Outcome, accepted, refused}
+use Rattle.pinwheel.specs.Search.{joined}
 use Rattle.site.specs.declared.Site.{Site}
 use Rattle.site.specs.Sites.{live}
 use Rattle.writer.specs.declared.Written.{Written}
@@ -28,11 +29,6 @@ flowBytes s n = 2 ∷ n ∷ getD (s .entries) n 0 ∷ getD (s .rates) n 0 ∷ by
 -- 01, command 11, LINK, of the link at index i: its node, offset and period.
 unfoldable pub linkBytes : List ℕ → List ℕ → ℕ → List ℕ
 linkBytes offsets periods i = 17 ∷ (i + 1) ∷ bytesOf 2 (getD offsets i 0) ++ bytesOf 2 (getD periods i 0)
-
--- The bytes of r items from number i on, one after the other.
-unfoldable pub joined : (ℕ → List ℕ) → ℕ → ℕ → List ℕ
-joined bytes zero i = []
-joined bytes (suc r) i = bytes i ++ joined bytes r (i + 1)
 
 unfoldable pub flowIfLive : Site → ℕ → List ℕ
 flowIfLive s n = cond (live s n) (flowBytes s n) []

@@ -4,7 +4,8 @@ ghost use mathlib.Core.Path.{_≡_};
 ghost use Prim.Native.Nat.{_+_, _≤_, _<_};
 ghost use lib.ListN.{length};
 ghost use lib.Seq.{sets};
-ghost use Rattle.writer.specs.Write.{writing, nodeBytes, flowBytes, flowIfLive, linkBytes, joined, planBytes, scheduleBytes};
+ghost use Rattle.writer.specs.Write.{writing, nodeBytes, flowBytes, flowIfLive, linkBytes, planBytes, scheduleBytes};
+ghost use Rattle.pinwheel.specs.Search.{joined};
 ghost use Rattle.writer.specs.Write.{written, siteFault, writtenIf};
 
 // The number of bytes written, or the number and the place of a refusal.

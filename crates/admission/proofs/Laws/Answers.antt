@@ -7,7 +7,7 @@ use lib.ListN.{length, take, drop, length-drop}
 use lib.Seq.{length-take-le}
 use borrow.Author.Tests.{lt-ltb, le-ltb, le-leb, lt-leb, eq-eqb, ne-eqb}
 use native.Mathlib.Omega.{arith}
-use Rattle.pinwheel.specs.Outcome.{accepted, refused, settled}
+use Rattle.pinwheel.specs.Outcome.{Ruling, accepted, refused, settled}
 use Rattle.pinwheel.proofs.Laws.Outcomes.{checked-pass, checked-fail}
 use Rattle.site.specs.declared.Site.{Site}
 use Rattle.site.specs.declared.Flow.{Flow}
@@ -21,7 +21,7 @@ use Rattle.limits.specs.Limits.{flowLimits}
 use Rattle.limits.specs.Check.{callFault}
 use Rattle.counters.specs.Blocks.{withCells, zeros}
 use Rattle.counters.proofs.Laws.{block-back}
-use Rattle.admission.specs.Calls.{Ruling, change, unfitLink, admitRuling, releaseRuling}
+use Rattle.admission.specs.Calls.{change, unfitLink, admitRuling, releaseRuling}
 use Rattle.admission.specs.Inner.{cleared}
 
 -- An admission, check by check: `call` and `limit` are what the callees answer.

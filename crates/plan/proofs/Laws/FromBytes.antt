@@ -23,8 +23,9 @@ use Rattle.reader.specs.declared.Draft.{Draft}
 use Rattle.reader.specs.Read.{nodeAt, flowAt, flowFault, withNode, nodeAdded, flowAdded, fault, after, decode, blank}
 use Rattle.reader.proofs.Laws.Commands.{node-passed}
 use Rattle.reader.proofs.Laws.Decode.{decodeOn, decode-start, decode-go, fault-none, NodePasses, FlowPasses}
-use Rattle.writer.specs.Write.{nodeBytes, flowBytes, flowIfLive, joined, commandBytes}
-use Rattle.writer.proofs.Laws.Items.{joined-split, joined-more, joined-none, joined-same}
+use Rattle.writer.specs.Write.{nodeBytes, flowBytes, flowIfLive, commandBytes}
+use Rattle.pinwheel.specs.Search.{joined}
+use Rattle.pinwheel.proofs.Laws.Items.{joined-split, joined-more, joined-none, joined-same}
 use Rattle.writer.proofs.Laws.Write.{node-size, flow-size, live-bytes, idle-bytes}
 use Rattle.plan.specs.Words.{Begun}
 use Rattle.plan.proofs.Laws.Drafts.{Drafted, blank-drafted, node-new, node-old, node-drafted, flow-drafted}

@@ -18,7 +18,8 @@ use Rattle.reader.specs.declared.Draft.{Draft}
 use Rattle.format.specs.Bytes.{numberAt, bytesOf}
 use Rattle.reader.specs.Read.{nodeAt, flowAt, nodeFault, flowFault, withNode, nodeAdded, flowAdded, decode}
 use Rattle.limits.specs.Check.{nodeOf, flowOf}
-use Rattle.writer.specs.Write.{nodeBytes, flowBytes, flowIfLive, joined, commandBytes}
+use Rattle.writer.specs.Write.{nodeBytes, flowBytes, flowIfLive, commandBytes}
+use Rattle.pinwheel.specs.Search.{joined}
 use Rattle.limits.specs.Words.{NodeGood, IdleAt, LiveAt, Formed}
 use Rattle.plan.proofs.Laws.Drafts.{NextOf}
 use Rattle.plan.proofs.Laws.Lists.{upto, upto-long, upto-below, upto-zeros, upto-more, upto-skip, upto-all, upto-full}

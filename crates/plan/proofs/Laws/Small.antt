@@ -7,7 +7,8 @@ use Rattle.site.specs.declared.Site.{Site}
 use Rattle.site.specs.Sites.{live}
 use Rattle.format.specs.Bytes.{bytesOf}
 use Rattle.limits.specs.Check.{nodeOf, flowOf}
-use Rattle.writer.specs.Write.{nodeBytes, flowBytes, flowIfLive, joined, commandBytes, planBytes}
+use Rattle.writer.specs.Write.{nodeBytes, flowBytes, flowIfLive, commandBytes, planBytes}
+use Rattle.pinwheel.specs.Search.{joined}
 use Rattle.format.specs.Words.{Bytes}
 use Rattle.limits.specs.Words.{NodeGood, IdleAt, LiveAt, Formed}
 

@@ -16,8 +16,9 @@ use Rattle.site.specs.Sites.{live}
 use Rattle.format.specs.Bytes.{bytesOf}
 use Rattle.format.specs.Commands.{sizeOf, scheduleSize}
 use Rattle.limits.specs.Check.{passesOf}
-use Rattle.writer.specs.Write.{nodeBytes, flowBytes, linkBytes, joined, flowIfLive, commandBytes, planBytes, scheduleBytes, written, siteFault, writtenIf}
-use Rattle.writer.proofs.Laws.Items.{joined-next}
+use Rattle.writer.specs.Write.{nodeBytes, flowBytes, linkBytes, flowIfLive, commandBytes, planBytes, scheduleBytes, written, siteFault, writtenIf}
+use Rattle.pinwheel.specs.Search.{joined}
+use Rattle.pinwheel.proofs.Laws.Items.{joined-next}
 use Rattle.limits.proofs.Laws.Check.{passes-few}
 
 sets-append : (d : List ℕ) (at : ℕ) (xs ys : List ℕ) → sets d at (xs ++ ys) ≡ sets (sets d at xs) (at + length xs) ys

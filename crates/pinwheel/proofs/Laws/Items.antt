@@ -1,12 +1,12 @@
--- Items written one after the other.
+-- Items joined one after the other, whatever they are made of.
 use Prim.Native.Nat.{ℕ, zero, suc, _+_, _-_, _<_, _≤_}
 use mathlib.Core.Path.{_≡_, refl, _∙_, ap}
 use mathlib.Core.List.{List, [], _++_, append-assoc, append-nil}
 use native.Mathlib.Nat.{zero-add, suc-add}
 use native.Mathlib.Omega.{arith}
-use Rattle.writer.specs.Write.{joined}
+use Rattle.pinwheel.specs.Search.{joined}
 
-module _ (item : ℕ → List ℕ) where
+module _ {A : Type 0} (item : ℕ → List A) where
   -- The next of n items, where some are left.
   pub joined-next : (n i : ℕ) → i < n → joined item (n - i) i ≡ item i ++ joined item (n - (i + 1)) (i + 1)
   unfolding joined
@@ -18,7 +18,7 @@ module _ (item : ℕ → List ℕ) where
   joined-split zero b i = let e : i + 0 ≡ i = omega arith in rw (zero-add, e)
   joined-split (suc a) b i =
       let e : i + suc a ≡ i + 1 + a = omega arith in
-      rw (suc-add a b, e, append-assoc) (ap (λ (l : List ℕ). item i ++ l) (joined-split a b (i + 1)))
+      rw (suc-add a b, e, append-assoc) (ap (λ (l : List A). item i ++ l) (joined-split a b (i + 1)))
 
   -- One more behind the first k.
   pub joined-more : (k : ℕ) → joined item (k + 1) 0 ≡ joined item k 0 ++ item k
@@ -31,7 +31,7 @@ module _ (item : ℕ → List ℕ) where
   joined-none zero i e = refl
   joined-none (suc r) i e = rw (e i (omega arith), joined-none r (i + 1) (λ k l. e k (omega arith)))
 
-pub joined-same : (item other : ℕ → List ℕ) (r i : ℕ) → ((k : ℕ) → i ≤ k → k < i + r → item k ≡ other k) → joined item r i ≡ joined other r i
+pub joined-same : {A : Type 0} (item other : ℕ → List A) (r i : ℕ) → ((k : ℕ) → i ≤ k → k < i + r → item k ≡ other k) → joined item r i ≡ joined other r i
 unfolding joined
 joined-same item other zero i e = refl
 joined-same item other (suc r) i e =
