@@ -1,14 +1,15 @@
 -- What is proved of blocks, for any size and any kind of element: a block that is put in is the one taken out, the others stay as they are, and so does
--- the length. And how a part that was lent on comes back.
+-- the length; blocks that are joined are the blocks of the list. And how a part that was lent on comes back.
 pub mod Clearing
-use Prim.Native.Nat.{ℕ, suc, _+_, _-_, _*_, _≤_, _<_}
-use mathlib.Core.Path.{_≡_, sym, _∙_, ap}
-use mathlib.Core.List.{List, _++_, append-assoc}
+use Prim.Native.Nat.{ℕ, zero, suc, _+_, _-_, _*_, _≤_, _<_}
+use mathlib.Core.Path.{_≡_, refl, sym, _∙_, ap}
+use mathlib.Core.List.{List, _∷_, _++_, append-assoc}
 use mathlib.Core.Logic.{_⊎_, inl, inr}
-use lib.ListN.{length, take, drop, length-append, length-take, length-drop, length-replicate, take-append-drop}
+use lib.ListN.{length, take, drop, replicate, length-append, length-take, length-drop, length-replicate, take-append-drop}
 use lib.Seq.{length-take-le, drop-append-le, take-append-le, drop-append-add, drop-drop, take-at, drop-at}
-use native.Mathlib.Nat.{mul-suc, mul-le-mul-left}
+use native.Mathlib.Nat.{mul-suc, mul-zero, mul-le-mul-left}
 use native.Mathlib.Omega.{arith}
+use Rattle.pinwheel.specs.Search.{joined}
 use Rattle.pinwheel.proofs.Laws.Search.{lt-or-le}
 use Rattle.counters.specs.Blocks.{block, withBlock, zeros}
 
@@ -63,6 +64,36 @@ module _ {A : Type 0} where
   unfolding withBlock
   block-back k n ys xs = let size : k * n + k - k * n ≡ k = omega arith in rw size
 
+-- Blocks of size k that are joined, those of the r numbers from i on: their length, and each of them.
+module _ {A : Type 0} (k : ℕ) (item : ℕ → List A) where
+  pub length-joined : (r i : ℕ) → ((j : ℕ) → i ≤ j → j < i + r → length (item j) ≡ k) → length (joined item r i) ≡ k * r
+  unfolding joined
+  length-joined zero i size = rw mul-zero
+  length-joined (suc r) i size =
+      rw (length-append, size i (omega arith) (omega arith), length-joined r (i + 1) (λ j lo hi. size j (omega arith) (omega arith)), mul-suc) (omega arith)
+
+  pub block-joined : (r i n : ℕ) → ((j : ℕ) → i ≤ j → j < i + r → length (item j) ≡ k) → n < r → block k n (joined item r i) ≡ item (i + n)
+  unfolding joined block
+  block-joined zero i n size l = absurd (omega arith)
+  block-joined (suc r) i zero size l =
+      let e : i + 0 ≡ i = omega arith in rw (e, mul-zero) (take-at (item i) _ k (size i (omega arith) (omega arith)))
+  block-joined (suc r) i (suc n) size l =
+      let e : i + suc n ≡ i + 1 + n = omega arith in
+      let at : k * suc n ≡ length (item i) + k * n = rw (mul-suc, size i (omega arith) (omega arith)) (omega arith) in
+      rw (at, e, drop-append-add (item i) (joined item r (i + 1)) (k * n)) (block-joined r (i + 1) n (λ j lo hi. size j (omega arith) (omega arith)) (omega arith))
+
+-- Zeros, of which a part is zeros too.
 pub length-zeros : (n : ℕ) → length (zeros n) ≡ n
 unfolding zeros
 length-zeros n = length-replicate n 0
+
+pub block-zeros : (k n r : ℕ) → k * n + k ≤ r → block k n (zeros r) ≡ zeros k
+unfolding block zeros
+block-zeros k n r l = part k (k * n) r l
+  where
+    part : (j a m : ℕ) → a + j ≤ m → take {A = ℕ} j (drop a (replicate m 0)) ≡ replicate j 0
+    part zero zero m h = refl
+    part (suc j) zero zero h = absurd (omega arith)
+    part (suc j) zero (suc m) h = ap (λ (xs : List ℕ). 0 ∷ xs) (part j zero m (omega arith))
+    part j (suc a) zero h = absurd (omega arith)
+    part j (suc a) (suc m) h = part j a m (omega arith)

@@ -1,27 +1,39 @@
--- What is proved of the lookup of a slot's sender: which child it gives, that there is never a second one, and which check refuses it. The module named here holds a
--- law for each answer of the code.
+-- What is proved of the lookup of a slot's sender: which child it gives, that there is never a second one, and which check refuses it. And of a slot and a start: when
+-- each is accepted, which check refuses it with which place, and what each leaves. The modules named here hold a law for each answer of the code, and the lemmas.
 pub mod Answers
-use Prim.Native.Nat.{ℕ, _≤_, _<_}
-use mathlib.Core.Path.{_≡_, refl, sym, _∙_}
-use mathlib.Core.Bool.{Bool, true, false, not, false≢true, and-eq-true-iff}
+pub mod Moves
+use Prim.Native.Nat.{ℕ, _+_, _*_, _≤_, _<_}
+use mathlib.Core.Path.{_≡_, refl, sym, _∙_, ap}
+use mathlib.Core.Bool.{Bool, true, false, not, cond, false≢true, _&&_, and-eq-true-iff}
+use mathlib.Core.List.{List}
 use mathlib.Core.Logic.{_⊎_, inl, inr, ⊎-elim, _↔_}
 use lib.Dec.{eqb, ltb}
-use borrow.Author.Tests.{lt-ltb, eq-eqb, eqb-true, ltb-true, ltb-false, not-false}
+use lib.ListN.{length, getD}
+use borrow.Author.Tests.{lt-ltb, le-ltb, eq-eqb, eqb-true, ltb-true, ltb-false, not-true, not-false}
 use native.Mathlib.Decide.{ℕ-discrete}
 use native.Mathlib.Omega.{arith}
-use Rattle.pinwheel.specs.Outcome.{Outcome, accepted, none, Ruled}
-use Rattle.pinwheel.proofs.Laws.Outcomes.{past, ruled-test, ruled-end}
-use Rattle.pinwheel.proofs.Laws.Search.{lt-or-le, last-passes, last-above, last-is}
+use Rattle.pinwheel.specs.Outcome.{Outcome, Ruling, accepted, refused, settled, Checks, none, check, Ruled, nothing}
+use Rattle.pinwheel.specs.Search.{first, total, joined}
+use Rattle.pinwheel.proofs.Laws.Outcomes.{past, checked-pass, checked-past, settled-accepted, settled-refused, ruled-check, ruled-test, ruled-end}
+use Rattle.pinwheel.proofs.Laws.Search.{lt-or-le, last-passes, last-above, last-is, first-none, first-found}
 use Rattle.site.specs.declared.Site.{Site}
-use Rattle.site.specs.Sites.{used, ofLink}
+use Rattle.site.specs.Sites.{used, ofLink, live}
+use Rattle.site.specs.Reservations.{routeOf}
 use Rattle.schedule.proofs.Laws.Slots.{sends-in}
-use Rattle.limits.specs.Check.{passesOf}
+use Rattle.limits.specs.Check.{passesOf, callFault}
 use Rattle.limits.specs.Words.{Sound}
-use Rattle.limits.proofs.Laws.{passes-sound, site-first, siblings-apart}
+use Rattle.limits.proofs.Laws.{passes-sound, call-when, site-first, call-first, siblings-apart, route-whole}
 use Rattle.limits.proofs.Laws.Check.{passes-few}
+use Rattle.limits.proofs.Laws.Tests.{not-when}
+use Rattle.counters.specs.Blocks.{block, cellsOf, zeros}
+use Rattle.counters.proofs.Laws.{length-block, length-joined, block-joined, block-zeros, length-zeros}
 use Rattle.simulation.specs.Sender.{childSends, sendingChild, senderOf}
-use Rattle.simulation.specs.Words.{ChildSends, NoneSends, SendingChild, senderChecks}
-use Rattle.simulation.proofs.Laws.Answers.{sender-found}
+use Rattle.simulation.specs.Hops.{Service}
+use Rattle.simulation.specs.Slot.{recounted, overflows, firstOverflow, unexpected, firstUnexpected, slotRuling, cellsAfter, slotOf, startRuling, startOf}
+use Rattle.simulation.specs.Words.{ChildSends, NoneSends, SendingChild, senderChecks, Overflows, Unexpected, Lowest, Playable, slotChecks, startChecks}
+use Rattle.simulation.specs.Inner.{Movable, AllMovable}
+use Rattle.simulation.proofs.Laws.Answers.{sender-found, slot-passes}
+use Rattle.simulation.proofs.Laws.Moves.{length-after}
 
 -- A child's test in words.
 sends-when : (s : Site) (p t n : ℕ) → (childSends s p t n ≡ true) ↔ ChildSends s p t n
@@ -98,3 +110,147 @@ sender-first s p t o =
     site-first (SendingChild s p t) o _ _ s
     (λ e. ruled-test (SendingChild s p t) o (ltb (s .links) p) 6 0 _ none _ (ltb-true _ _, lt-ltb _ _)
     (λ _. ruled-end (SendingChild s p t) o (sendingChild s p t) (child-when s e p t _ .0 refl) (λ c w. sym (child-when s e p t c .1 w))))
+
+-- The tests of 19 and 20 in words.
+overflows-when : (s : Site) (cs xs : List ℕ) (n : ℕ) → (overflows s cs xs n ≡ true) ↔ Overflows s cs xs n
+unfolding overflows
+overflows-when s cs xs n = (
+  λ e. let w = and-eq-true-iff (live s n) _ .0 e in (w .0, ltb-true _ _ (w .1)),
+  λ w. rw (w .0, lt-ltb _ _ (w .1)),
+)
+
+unexpected-when : (s : Site) (xs : List ℕ) (n : ℕ) → (unexpected s xs n ≡ true) ↔ Unexpected s xs n
+unfolding unexpected
+unexpected-when s xs n = (
+  λ e. let w = and-eq-true-iff (not (live s n)) _ .0 e in (not-true _ (w .0), ltb-true _ _ (w .1)),
+  λ w. rw (w .0, lt-ltb _ _ (w .1)),
+)
+
+-- A search over the 64 numbers finds the lowest that has the test in words, and none just when none has.
+module _ (p : ℕ → Bool) (P : ℕ → Type 0) (w : (n : ℕ) → (p n ≡ true) ↔ P n) where
+  lowest-when : (n : ℕ) → ((first p 64 0 ≡ n) × (n < 64)) ↔ Lowest P n
+  lowest-when n = (
+    λ e. let f = first-found p 64 n .0 e in
+        record { few = f .0; here = w n .0 (f .1); lower = λ k l h. false≢true (sym (f .2 k l) ∙ w k .1 h) },
+    λ l. first-found p 64 n .1 (l .few, w n .1 (l .here), λ k h. silent k h (p k) refl l),
+  )
+    where
+      silent : (k : ℕ) → k < n → (b : Bool) → p k ≡ b → Lowest P n → b ≡ false
+      silent k h true q l = absurd (l .lower k h (w k .0 q))
+      silent k h false q l = refl
+
+  -- A check whose place is what the search finds.
+  lowest-first : (o : Ruling) (number : ℕ) (cs : Checks) (rest : Ruling) → (rest ≡ o) ↔ Ruled nothing cs o
+      → (cond (ltb (first p 64 0) 64) (refused number (first p 64 0)) rest ≡ o) ↔ Ruled nothing (check number (λ q. Lowest P q) cs) o
+  lowest-first o number cs rest behind =
+      ruled-check nothing o (ltb (first p 64 0) 64) number (first p 64 0) (λ q. Lowest P q) cs rest
+      (λ e. lowest-when _ .0 (refl, ltb-true _ _ e))
+      (λ q l. let f = lowest-when q .1 l in (rw (f .0) (lt-ltb _ _ (f .1)), sym (f .0))) (λ _. behind)
+
+-- A slot is refused by the first check that fails, with its place, and accepted where none fails.
+pub slots-first : (s : Site) (cs xs : List ℕ) (o : Ruling) → (slotRuling s cs xs ≡ o) ↔ Ruled nothing (slotChecks s cs xs) o
+unfolding slotRuling firstOverflow firstUnexpected
+slots-first s cs xs o =
+    ruled-test nothing o (not (eqb (length xs) 64)) 1 0 _ _ _ (not-when (eqb (length xs) 64) _ (eqb-true _ _, eq-eqb _ _))
+    (λ _. call-first nothing o _ _ s cs
+    (lowest-first (overflows s cs xs) (Overflows s cs xs) (overflows-when s cs xs) o 19 _ _
+    (lowest-first (unexpected s xs) (Unexpected s xs) (unexpected-when s xs) o 20 none _ (ruled-end nothing o tt tt (λ b w. refl)))))
+
+-- So is a start.
+pub starts-first : (s : Site) (cs : List ℕ) (o : Ruling) → (startRuling s cs ≡ o) ↔ Ruled nothing (startChecks s cs) o
+unfolding startRuling
+starts-first s cs o = call-first nothing o _ none s cs (ruled-end nothing o tt tt (λ b w. refl))
+
+-- A slot is accepted just when it is as the words say.
+pub slots-when : (s : Site) (cs xs : List ℕ) → (slotRuling s cs xs ≡ accepted tt) ↔ Playable s cs xs
+unfolding slotRuling firstOverflow firstUnexpected overflows unexpected
+slots-when s cs xs = (
+  λ e. let a = past (not (eqb (length xs) 64)) 1 0 _ e in
+      let b = checked-past (callFault s cs) _ (a .1) in
+      let c = past (ltb (firstOverflow s cs xs) 64) 19 _ _ (b .1) in
+      let d = past (ltb (firstUnexpected s xs) 64) 20 _ _ (c .1) in
+      let call = call-when s cs .0 (b .0) in
+      record {
+        listed = eqb-true _ _ (not-false _ (a .0));
+        counted = call .0;
+        sound = call .1;
+        fits = λ n l on. ltb-false _ _ (rw on at (first-none (overflows s cs xs) 64 .0 (ltb-false _ _ (c .0)) n l));
+        expected = λ n l off. let z = ltb-false 0 (getD xs n 0) (rw off at (first-none (unexpected s xs) 64 .0 (ltb-false _ _ (d .0)) n l)) in omega arith;
+      },
+  λ w. sym (slot-passes s cs xs (w .listed) (callFault s cs) refl (call-when s cs .1 (w .counted, w .sound)) (firstOverflow s cs xs) refl
+      (first-none (overflows s cs xs) 64 .1 (λ n l. fit w n l (live s n) refl)) (firstUnexpected s xs) refl
+      (first-none (unexpected s xs) 64 .1 (λ n l. known w n l (live s n) refl))),
+)
+  where
+    fit : Playable s cs xs → (n : ℕ) → n < 64 → (b : Bool) → live s n ≡ b → b && ltb 4294967295 (total (cellsOf n cs) + getD xs n 0) ≡ false
+    fit w n l true q = le-ltb _ _ (w .fits n l q)
+    fit w n l false q = refl
+
+    known : Playable s cs xs → (n : ℕ) → n < 64 → (b : Bool) → live s n ≡ b → not b && ltb 0 (getD xs n 0) ≡ false
+    known w n l true q = refl
+    known w n l false q = le-ltb 0 (getD xs n 0) (omega (arith, w .expected n l q))
+
+-- A start is accepted just when there are 576 counters and check 14 lets the site pass.
+pub starts-when : (s : Site) (cs : List ℕ) → (startRuling s cs ≡ accepted tt) ↔ ((length cs ≡ 576) × Sound s)
+unfolding startRuling
+starts-when s cs = (
+  λ e. call-when s cs .0 (checked-past (callFault s cs) _ e .0),
+  λ w. checked-pass (callFault s cs) _ (call-when s cs .1 w),
+)
+
+-- What the calls answer and leave: an accepted one new counters, a refused one those that were there.
+module _ (r : Ruling) (new cs ds : List ℕ) where
+  recounted-accepted : (accepted tt, ds) ≡ recounted r new cs → (r ≡ accepted tt) × (ds ≡ new)
+  unfolding recounted
+  recounted-accepted e =
+      let a : accepted tt ≡ r = ap (λ (q : Ruling × List ℕ). q .0) e in
+      (sym a, ap (λ (q : Ruling × List ℕ). q .1) e ∙ settled-accepted r new cs a)
+
+  recounted-refused : (number place : ℕ) → (refused number place, ds) ≡ recounted r new cs → ds ≡ cs
+  unfolding recounted
+  recounted-refused number place e =
+      let a : refused number place ≡ r = ap (λ (q : Ruling × List ℕ). q .0) e in ap (λ (q : Ruling × List ℕ). q .1) e ∙ settled-refused r new cs a
+
+module _ (s : Site) (cs ds : List ℕ) where
+  pub slot-accepted : (v : Service) (xs : List ℕ) (t : ℕ) → (accepted tt, ds) ≡ slotOf v s cs xs t
+      → Playable s cs xs × (ds ≡ joined (cellsAfter v s cs xs t) 64 0)
+  unfolding slotOf
+  slot-accepted v xs t e = let w = recounted-accepted _ _ cs ds e in (slots-when s cs xs .0 (w .0), w .1)
+
+  pub slot-refused : (v : Service) (xs : List ℕ) (t number place : ℕ) → (refused number place, ds) ≡ slotOf v s cs xs t → ds ≡ cs
+  unfolding slotOf
+  slot-refused v xs t number place e = recounted-refused _ _ cs ds number place e
+
+  pub start-accepted : (accepted tt, ds) ≡ startOf s cs → (length cs ≡ 576) × Sound s × (ds ≡ zeros 576)
+  unfolding startOf
+  start-accepted e = let w = recounted-accepted _ _ cs ds e in let c = starts-when s cs .0 (w .0) in (c .0, c .1, w .1)
+
+  pub start-refused : (number place : ℕ) → (refused number place, ds) ≡ startOf s cs → ds ≡ cs
+  unfolding startOf
+  start-refused number place e = recounted-refused _ _ cs ds number place e
+
+-- The counters that an accepted slot leaves: there are 576 still, and each number has the cells that the rules give it; an accepted start leaves each nine zeros.
+pub slot-cells : (v : Service) (s : Site) (cs xs : List ℕ) (t : ℕ) → length cs ≡ 576
+    → (length (joined (cellsAfter v s cs xs t) 64 0) ≡ 576) × ((n : ℕ) → n < 64 → cellsOf n (joined (cellsAfter v s cs xs t) 64 0) ≡ cellsAfter v s cs xs t n)
+unfolding cellsOf
+slot-cells v s cs xs t long =
+    let nine : (k : ℕ) → 0 ≤ k → k < 0 + 64 → length (cellsAfter v s cs xs t k) ≡ 9 = λ k lo hi. length-after v s cs xs t k (omega arith) in
+    (length-joined 9 _ 64 0 nine, λ n l. let e : 0 + n ≡ n = omega arith in rw e at (block-joined 9 (cellsAfter v s cs xs t) 64 0 n nine l))
+
+pub start-cells : (n : ℕ) → n < 64 → cellsOf n (zeros 576) ≡ zeros 9
+unfolding cellsOf
+start-cells n l = block-zeros 9 n 576 (omega arith)
+
+-- An accepted slot can be moved: routes are short enough, and nothing leaves 32 bits.
+pub slot-ready : (s : Site) (cs xs : List ℕ) → slotRuling s cs xs ≡ accepted tt → AllMovable s cs xs
+unfolding cellsOf
+slot-ready s cs xs e =
+    let w = slots-when s cs xs .0 e in let long = w .counted in record {
+      counted = w .counted;
+      listed = w .listed;
+      each = λ n l on. record {
+        nine = length-block 9 n cs (omega arith);
+        short = route-whole s (passes-sound s .1 (w .sound)) n on .1;
+        fits = w .fits n l on;
+      };
+    }

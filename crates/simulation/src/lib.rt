@@ -1,8 +1,15 @@
-// What happens on a site slot by slot (01: the rehearsal): which child of a parent sends.
+// What happens on a site slot by slot (01: the rehearsal): which child of a parent sends, and where each flow's packets are.
+mod checks;
+mod moves;
+
+use schedule::Verdict;
 use site::Site;
 ghost use mathlib.Core.Path.{_≡_};
 ghost use Rattle.pinwheel.specs.Rule.{sends};
+ghost use Rattle.schedule.specs.Judge.{ruling};
 ghost use Rattle.simulation.specs.Sender.{found, sendingChild, senderOf};
+ghost use Rattle.simulation.specs.Hops.{own};
+ghost use Rattle.simulation.specs.Slot.{slotRuling, slotOf, startOf};
 
 // The child that sends or 0, or the number and the place of a refusal.
 pub enum Lookup {
@@ -11,7 +18,7 @@ pub enum Lookup {
 }
 
 // Slot rule 6: a link of this period and offset sends in the slot.
-fn sends_in(period: u16, offset: u16, slot: u32) -> bool
+pub(crate) fn sends_in(period: u16, offset: u16, slot: u32) -> bool
     ensures { λ r. ⌜ r ≡ sends period offset slot ⌝ }
 {
     if period == 0 {
@@ -48,4 +55,50 @@ pub fn sender(site: Site, parent: u8, slot: u32) -> Lookup
         return Lookup::Refused(6, 0);
     }
     Lookup::Child(sending_child(site, parent, slot))
+}
+
+// Starts a rehearsal: all counters become 0.
+pub fn start(site: Site, counters: &mut [u32]) -> Verdict
+    ensures { λ r. ⌜ (ruling r, now (counters .exit)) ≡ startOf site (now (counters .entry)) ⌝ }
+{
+    let call = limits::call_fault(site, counters);
+    if call != 0 {
+        return Verdict::Refused(call, 0);
+    }
+    counters::clear(counters);
+    Verdict::Accepted
+}
+
+// The checks of a slot in their order: 1 and 14, 19, 20.
+fn judge_slot(site: Site, counters: &[u32], arrivals: &[u16]) -> Verdict
+    ensures { λ r. ⌜ ruling r ≡ slotRuling site (now (counters .entry)) (now (arrivals .entry)) ⌝ }
+{
+    if arrivals.len() != 64 {
+        return Verdict::Refused(1, 0);
+    }
+    let call = limits::call_fault(site, counters);
+    if call != 0 {
+        return Verdict::Refused(call, 0);
+    }
+    let over = checks::first_overflow(site, counters, arrivals);
+    let stray = checks::first_unexpected(site, arrivals);
+    if over < 64 {
+        return Verdict::Refused(19, over);
+    }
+    if stray < 64 {
+        return Verdict::Refused(20, stray);
+    }
+    Verdict::Accepted
+}
+
+// One slot: arrivals join, and every sending link moves what it may of each live flow.
+pub fn slot(site: Site, counters: &mut [u32], arrivals: &[u16], number: u32) -> Verdict
+    ensures { λ r. ⌜ (ruling r, now (counters .exit)) ≡ slotOf own site (now (counters .entry)) (now (arrivals .entry)) number ⌝ }
+{
+    let verdict = judge_slot(site, counters, arrivals);
+    match verdict {
+        Verdict::Accepted => moves::move_all(site, counters, arrivals, number),
+        Verdict::Refused(_number, _place) => {}
+    }
+    verdict
 }

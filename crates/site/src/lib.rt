@@ -7,7 +7,10 @@ pub use reservations::first_late;
 pub use reservations::first_over;
 pub use reservations::first_unfit;
 pub use reservations::gaps_along;
+pub use reservations::gaps_judged;
 pub use tree::depth;
+pub use tree::parent_of;
+pub use tree::value_of;
 ghost use mathlib.Core.Path.{_≡_};
 ghost use Rattle.site.specs.Sites.{emptySite, used, live, withFlow, withoutFlow};
 

@@ -12,7 +12,7 @@ ghost use Rattle.site.specs.Reservations.{gapsJudged, load, firstOver, f
 ghost use Rattle.site.specs.Inner.{carried};
 
 // The gaps that widths and the sums of 12, 13, 17 and 18 go by: the wanted gaps.
-fn gaps_judged(site: Site) -> [u16; 63]
+pub fn gaps_judged(site: Site) -> [u16; 63]
     ensures { λ r. ⌜ r ≡ gapsJudged site ⌝ }
 {
     site.gaps

@@ -4,7 +4,7 @@ ghost use Rattle.site.specs.Sites.{ofLink};
 ghost use Rattle.site.specs.Tree.{up, depthOf};
 
 // The parent of a node; the root, and a number beyond the list, are their own.
-pub(crate) fn parent_of(parents: &[u8], node: u8) -> u8
+pub fn parent_of(parents: &[u8], node: u8) -> u8
     ensures { λ r. ⌜ r ≡ up (now (parents .entry)) node ⌝ }
 {
     if node == 0 {
@@ -18,7 +18,7 @@ pub(crate) fn parent_of(parents: &[u8], node: u8) -> u8
 }
 
 // The entry of a node's link; the root, and a number beyond the list, have 0.
-pub(crate) fn value_of(values: &[u16], node: u8) -> u16
+pub fn value_of(values: &[u16], node: u8) -> u16
     ensures { λ r. ⌜ r ≡ ofLink (now (values .entry)) node ⌝ }
 {
     if node == 0 {

@@ -1,22 +1,30 @@
--- One law for each answer of the lookup, and for each turn of its search from the last link down.
-use Prim.Native.Nat.{ℕ, _-_, _≤_, _<_}
-use mathlib.Core.Path.{_≡_, sym, _∙_}
+-- One law for each answer of the lookup, a slot and a start, and for each turn of the searches.
+use Prim.Native.Nat.{ℕ, _+_, _-_, _*_, _≤_, _<_}
+use mathlib.Core.Path.{_≡_, sym, _∙_, ap}
 use mathlib.Core.Bool.{Bool, true, false, not}
+use mathlib.Core.List.{List}
 use lib.Dec.{eqb}
-use lib.ListN.{getD}
+use lib.ListN.{length, getD, take, drop}
 use borrow.Author.Tests.{lt-ltb, le-ltb, le-leb, eq-eqb, ne-eqb}
 use native.Mathlib.Nat.{mod-zero}
 use native.Mathlib.Omega.{arith}
-use Rattle.pinwheel.specs.Outcome.{accepted, refused}
-use Rattle.pinwheel.specs.Search.{last}
+use Rattle.pinwheel.specs.Outcome.{Ruling, accepted, refused, settled}
+use Rattle.pinwheel.specs.Search.{last, total, joined}
 use Rattle.pinwheel.specs.Rule.{sends}
+use Rattle.pinwheel.proofs.Laws.Outcomes.{checked-pass, checked-fail}
 use Rattle.pinwheel.proofs.Laws.Search.{last-hit, last-miss}
 use Rattle.site.specs.declared.Site.{Site}
-use Rattle.site.specs.Sites.{used}
+use Rattle.site.specs.Sites.{used, live}
 use Rattle.site.proofs.Laws.Tree.{link-in}
 use Rattle.schedule.specs.Schedule.{linkSends}
-use Rattle.limits.specs.Check.{passesOf}
+use Rattle.schedule.specs.declared.Verdict.{Verdict}
+use Rattle.schedule.specs.declared.Verdict.the-variants.{Accepted, Refused}
+use Rattle.schedule.specs.Judge.{ruling}
+use Rattle.limits.specs.Check.{passesOf, callFault}
+use Rattle.counters.specs.Blocks.{block, cellsOf, zeros}
 use Rattle.simulation.specs.Sender.{childSends, sendingChild, senderOf}
+use Rattle.simulation.specs.Hops.{own}
+use Rattle.simulation.specs.Slot.{overflows, firstOverflow, unexpected, firstUnexpected, slotRuling, cellsAfter, recounted, slotOf, startRuling, startOf}
 
 -- Slot rule 6 at period 0, which no link in use has: a remainder by 0 is the number itself.
 pub sends-never : (p o t : ℕ) → p ≡ 0 → eqb t o ≡ sends p o t
@@ -83,3 +91,80 @@ module _ (s : Site) (p t : ℕ) (b : Bool) (e : b ≡ passesOf s) where
     pub sender-found : (c : ℕ) → p ≤ s .links → c ≡ sendingChild s p t → accepted c ≡ senderOf s p t
     unfolding senderOf
     sender-found c l q = rw (← e, passes, le-ltb _ _ l, q)
+
+-- The tests of 20 and 19 of one number.
+module _ (s : Site) (xs : List ℕ) (n : ℕ) where
+  pub unexpected-live : getD (s .states) n 0 ≡ 1 → unexpected s xs n ≡ false
+  unfolding unexpected live
+  unexpected-live e = rw (eq-eqb _ _ e)
+
+  module _ (off : getD (s .states) n 0 ≡ 1 → ⊥) where
+    pub unexpected-yes : 0 < getD xs n 0 → unexpected s xs n ≡ true
+    unfolding unexpected live
+    unexpected-yes l = rw (ne-eqb _ _ off, lt-ltb _ _ l)
+
+    pub unexpected-no : getD xs n 0 ≤ 0 → unexpected s xs n ≡ false
+    unfolding unexpected live
+    unexpected-no l = rw (ne-eqb _ _ off, le-ltb _ _ l)
+
+    pub overflow-dead : (cs : List ℕ) → overflows s cs xs n ≡ false
+    unfolding overflows live
+    overflow-dead cs = rw (ne-eqb _ _ off)
+
+  module _ (cs : List ℕ) (on : getD (s .states) n 0 ≡ 1) (v x : ℕ) (e : v ≡ total (take (9 * n + 9 - 9 * n) (drop (9 * n) cs))) (f : x ≡ getD xs n 0) where
+    summed : v ≡ total (cellsOf n cs)
+    unfolding cellsOf block
+    summed = let size : 9 * n + 9 - 9 * n ≡ 9 = omega arith in rw size at e
+
+    pub overflow-yes : 4294967295 < v + x → overflows s cs xs n ≡ true
+    unfolding overflows live
+    overflow-yes l = rw (eq-eqb _ _ on, ← summed, ← f, lt-ltb _ _ l)
+
+    pub overflow-no : v + x ≤ 4294967295 → overflows s cs xs n ≡ false
+    unfolding overflows live
+    overflow-no l = rw (eq-eqb _ _ on, ← summed, ← f, le-ltb _ _ l)
+
+-- A slot, check by check: `call`, `over` and `stray` are what the callees answer.
+module _ (s : Site) (cs xs : List ℕ) where
+  pub slot-short : (length xs ≡ 64 → ⊥) → refused 1 0 ≡ slotRuling s cs xs
+  unfolding slotRuling
+  slot-short d = rw (ne-eqb _ _ d)
+
+  module _ (listed : length xs ≡ 64) (call : ℕ) (calls : call ≡ callFault s cs) where
+    pub slot-call : (call ≡ 0 → ⊥) → refused call 0 ≡ slotRuling s cs xs
+    unfolding slotRuling
+    slot-call d = rw (eq-eqb _ _ listed, ← calls) (sym (checked-fail call _ d))
+
+    module _ (passed : call ≡ 0) (over : ℕ) (overs : over ≡ firstOverflow s cs xs) where
+      pub slot-over : over < 64 → refused 19 over ≡ slotRuling s cs xs
+      unfolding slotRuling
+      slot-over l = rw (eq-eqb _ _ listed, ← calls, checked-pass call _ passed, ← overs, lt-ltb _ _ l)
+
+      module _ (within : 64 ≤ over) (stray : ℕ) (strays : stray ≡ firstUnexpected s xs) where
+        pub slot-stray : stray < 64 → refused 20 stray ≡ slotRuling s cs xs
+        unfolding slotRuling
+        slot-stray l = rw (eq-eqb _ _ listed, ← calls, checked-pass call _ passed, ← overs, le-ltb _ _ within, ← strays, lt-ltb _ _ l)
+
+        pub slot-passes : 64 ≤ stray → accepted tt ≡ slotRuling s cs xs
+        unfolding slotRuling
+        slot-passes l = rw (eq-eqb _ _ listed, ← calls, checked-pass call _ passed, ← overs, le-ltb _ _ within, ← strays, le-ltb _ _ l)
+
+-- What a slot answers and leaves by the verdict.
+module _ (v : Verdict) (r : Ruling) (rules : ruling v ≡ r) (new cs : List ℕ) where
+  pub recount-accepted : (ds : List ℕ) → v ≡ Accepted → ds ≡ new → (ruling v, ds) ≡ recounted r new cs
+  unfolding settled recounted
+  recount-accepted ds e q = let a : accepted tt ≡ r = rw e at rules in rw (q, e, ← a)
+
+  pub recount-refused : (number place : ℕ) → v ≡ Refused number place → (refused number place, cs) ≡ recounted r new cs
+  unfolding settled recounted
+  recount-refused number place e = let a : refused number place ≡ r = rw e at rules in rw (← a)
+
+-- The answers of a start.
+module _ (s : Site) (cs : List ℕ) (call : ℕ) (calls : call ≡ callFault s cs) where
+  pub start-call : (call ≡ 0 → ⊥) → (refused call 0, cs) ≡ startOf s cs
+  unfolding startOf startRuling recounted settled
+  start-call d = rw (← calls, checked-fail call _ d)
+
+  pub start-passes : call ≡ 0 → (ds : List ℕ) → ds ≡ zeros (length cs) → length cs ≡ 576 → (accepted tt, ds) ≡ startOf s cs
+  unfolding startOf startRuling recounted settled
+  start-passes passed ds e long = rw (← calls, checked-pass call _ passed, e, long)

@@ -1,0 +1,3 @@
+-- What is proved of one flow's queues.
+pub mod Cells
+pub mod Delay

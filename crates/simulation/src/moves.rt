@@ -1,0 +1,98 @@
+// What the links of a site move in one slot.
+use crate::sends_in;
+use site::Site;
+ghost use mathlib.Core.Path.{_≡_};
+ghost use Prim.Native.Nat.{min};
+ghost use Rattle.pinwheel.specs.Search.{joined};
+ghost use Rattle.site.specs.Tree.{route};
+ghost use Rattle.queues.specs.Cells.{step};
+ghost use Rattle.simulation.specs.Hops.{own};
+ghost use Rattle.simulation.specs.Slot.{cellsAfter};
+ghost use Rattle.simulation.specs.Inner.{GapsIn, hopsIn, Movable, AllMovable};
+
+// For each link the gap that widths go by if it sends in the slot, else 0: worked out once for all flows, whose width is then the rate times this.
+fn gaps_sending(site: Site, slot: u32) -> [u16; 63]
+    ensures { λ r. ⌜ GapsIn site slot r ⌝ }
+{
+    let gaps = site::gaps_judged(site);
+    let links = site::link_count(site.links);
+    let mut sending = [0u16; 63];
+    let mut i = 0;
+    while i < links {
+        if sends_in(site.periods[i], site.offsets[i], slot) {
+            sending[i] = gaps[i];
+        }
+        i += 1;
+    }
+    sending
+}
+
+fn smaller(queue: u32, width: u32) -> u32
+    ensures { λ r. ⌜ r ≡ min queue width ⌝ }
+{
+    if queue < width {
+        return queue;
+    }
+    width
+}
+
+// One slot of one flow's nine cells, from its entry link up. What a link moves comes to the next queue, and joins it after that queue was judged.
+fn move_packets<'a>(
+    cells: &mut [u32],
+    parents: &'a [u8],
+    sending: &'a [u16],
+    entry: u8,
+    rate: u8,
+    arrival: u16,
+)
+    requires { ⌜ Movable (now cells) arrival (route (now parents) entry) ⌝ }
+    ensures { λ _. ⌜ now (cells .exit) ≡ step (hopsIn (now (parents .entry)) (now (sending .entry)) rate entry) 0 arrival (now (cells .entry)) ⌝ }
+{
+    let joining = arrival as u32;
+    cells[0] = cells[0] + joining;
+    let mut coming: u32 = 0;
+    let mut node = entry;
+    let mut k: usize = 0;
+    loop {
+        let parent = site::parent_of(parents, node);
+        if node <= parent {
+            break;
+        }
+        let queue = cells[k];
+        let whole = queue + coming;
+        let width = rate as u32 * site::value_of(sending, node) as u32;
+        let moved = smaller(queue, width);
+        cells[k] = whole - moved;
+        coming = moved;
+        k += 1;
+        node = parent;
+    }
+    cells[8] = cells[8] + coming;
+}
+
+// One slot of every live flow. The nine cells of each are lent on from where they stand.
+pub(crate) fn move_all(site: Site, counters: &mut [u32], arrivals: &[u16], number: u32)
+    requires { ⌜ AllMovable site (now counters) (now arrivals) ⌝ }
+    ensures { λ _. ⌜ now (counters .exit) ≡ joined (cellsAfter own site (now (counters .entry)) (now (arrivals .entry)) number) 64 0 ⌝ }
+{
+    let sending = gaps_sending(site, number);
+    let parents = site.parents;
+    let mut n = 0;
+    while n < 64 {
+        if site.states[n] == 1 {
+            let at = 9 * n;
+            let end = at + 9;
+            let entry = site.entries[n];
+            let rate = site.rates[n];
+            move_packets(
+                &mut counters[at..end],
+                &parents,
+                &sending,
+                entry,
+                rate,
+                arrivals[n],
+            );
+        }
+        n += 1;
+    }
+}
