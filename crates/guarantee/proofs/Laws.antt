@@ -1,64 +1,186 @@
--- What is proved over lists of admissions and releases of any length, by the promises of the functions themselves: every list has a run, check 14 and both round trips
--- hold after each, a release leaves what a fresh plan would give, and the reader and admission judge alike. The modules named here hold the lemmas.
+-- What is proved over lists of calls of any length, by the promises of the functions themselves: demand 3 of 01; that every list has a run; that check 14 and both round
+-- trips hold after each, that a release leaves what a fresh plan would give, and that the reader and admission judge alike. The modules named here hold the lemmas.
+pub mod Frame
+pub mod Demand
 pub mod Bytes
 pub mod Reach
-use Prim.Native.Nat.{ℕ, _≤_}
-use mathlib.Core.Path.{_≡_, refl, _∙_}
+use Prim.Native.Nat.{ℕ, zero, suc, _+_, _-_, _≤_, _<_}
+use mathlib.Core.Path.{_≡_, refl, sym, _∙_, ap}
 use mathlib.Core.Bool.{true}
 use mathlib.Core.List.{List, [], _∷_, _++_, map}
-use lib.ListN.{length}
+use lib.ListN.{length, drop}
 use native.Mathlib.Omega.{arith}
 use Rattle.pinwheel.specs.Outcome.{Ruling, accepted, refused}
+use Rattle.pinwheel.specs.Search.{total}
+use Rattle.pinwheel.proofs.Laws.Outcomes.{refused-not}
 use Rattle.site.specs.declared.Site.{Site}
-use Rattle.site.specs.Sites.{withoutFlow}
+use Rattle.site.specs.declared.Flow.{Flow}
+use Rattle.site.specs.Sites.{live, withoutFlow}
+use Rattle.site.specs.Reservations.{routeOf, delayBound}
+use Rattle.site.proofs.Laws.Reservations.{live-with}
 use Rattle.limits.specs.Check.{flowOf, passesOf}
-use Rattle.limits.proofs.Laws.{passes-sound, flow-taken}
-use Rattle.limits.proofs.Laws.Flows.{live-fits}
+use Rattle.limits.proofs.Laws.{passes-sound, flow-taken, bound-within}
+use Rattle.limits.proofs.Laws.Flows.{live-few, live-fits}
+use Rattle.counters.specs.Blocks.{cellsOf, zeros}
+use Rattle.counters.proofs.Laws.{length-zeros}
+use Rattle.queues.specs.Cells.{Entry, steps, delivered, arrivals}
+use Rattle.queues.specs.Pace.{All, Rising}
+use Rattle.queues.specs.Words.{HasLeft}
+use Rattle.queues.proofs.Laws.Delay.{span-some}
 use Rattle.plan.proofs.Laws as plan
 use Rattle.reader.specs.Read.{readOf}
 use Rattle.writer.specs.Write.{flowBytes, flowIfLive, planBytes}
 use Rattle.admission.specs.Calls.{admitOf, releaseOf}
-use Rattle.admission.proofs.Laws.{admit-accepted, admit-refused, release-accepted, release-refused, admitted-passes}
-use Rattle.guarantee.specs.Runs.{Call, admit, release, State, Promise, Log, Run, none, then, admissions}
+use Rattle.admission.proofs.Laws.{admit-accepted, admit-refused, release-accepted, release-refused, cells-after, admitted-passes}
+use Rattle.simulation.specs.Hops.{Service, own, hopsOf}
+use Rattle.simulation.specs.Slot.{recounted, slotOf, startRuling, startOf}
+use Rattle.simulation.proofs.Laws.{slot-accepted, slot-refused, slot-cells, start-accepted, start-refused, start-cells, starts-when}
+use Rattle.guarantee.specs.Runs.{Call, slot, admit, release, start, State, Promise, Log, Run, none, then, admissions}
+use Rattle.guarantee.specs.Demand.{slotsOf, Stays, NoStart, rateOf, boundOf, Begins, Allowed, Kept, newest}
 use Rattle.guarantee.specs.Words.{Exchanged, bytesBefore, bytesBehind, nodesAlone}
+use Rattle.guarantee.proofs.Laws.Demand.{Followed, followed, demand3-any, own-steady, span-along, own-few, own-serves, own-some, own-short}
 use Rattle.guarantee.proofs.Laws.Bytes.{plan-parts, plan-without}
 use Rattle.guarantee.proofs.Laws.Reach.{below-none, below-all, below-passes, reach}
 
+-- G is the sum of the periods on the route, the bound that is printed; it is at least 1.
+pub bound-is : (s : Site) (f : ℕ) → boundOf own s f ≡ delayBound s f
+unfolding hopsOf delayBound
+bound-is s f = span-along s (rateOf s f) (routeOf s f)
+
+pub bound-some : (s : Site) → passesOf s ≡ true → (f : ℕ) → live s f ≡ true → 1 ≤ boundOf own s f
+bound-some s e f l = span-some (rateOf s f) (hopsOf own s f) (own-some s e f l) (own-serves s e f l)
+
+-- Demand 3: for every list of calls, refused ones included, that begins where a live flow's nine cells are 0, and of which 01's premises hold, all that 01 claims.
+pub demand3 : (f : ℕ) (σ₀ : State) (l : Log) (σ : State) (run : Run own σ₀ l σ) → Begins f σ₀ → Allowed f (σ₀ .site) l → Kept own f σ₀ l σ run
+demand3 f σ₀ l σ run b d =
+    let e = b .passes in let on = b .living in
+    demand3-any own own-steady f (own-few (σ₀ .site) e f on) σ₀ b (own-serves (σ₀ .site) e f on) (own-some (σ₀ .site) e f on)
+    (own-short (σ₀ .site) e f on) (rw bound-is (bound-within (σ₀ .site) e f on)) run d
+
+-- The cells alone: from any cells of the flow, and with no premise on its rate or on the slots' numbers, they are those that the rules of 'One slot' give it. No other
+-- flow's packets, cells or changes play a part.
+pub cells-from : (f : ℕ) (σ₀ : State) (l : Log) (σ : State) → Run own σ₀ l σ → passesOf (σ₀ .site) ≡ true → live (σ₀ .site) f ≡ true
+    → All (Stays f) l → All NoStart l → cellsOf f (σ .counters) ≡ steps (hopsOf own (σ₀ .site) f) (cellsOf f (σ₀ .counters)) (slotsOf f l)
+cells-from f σ₀ l σ run e on d u = followed own own-steady f (own-few (σ₀ .site) e f on) σ₀ on run d u .cells
+
+-- All but some of the newest slots have at least the arrivals of the older ones.
+late-total : (n : ℕ) (newer older : List Entry) → n ≤ length newer → total (arrivals older) ≤ total (drop n (arrivals (newer ++ older)))
+unfolding arrivals total
+late-total zero [] older l = omega arith
+late-total (suc n) [] older l = absurd (omega arith)
+late-total zero (e ∷ newer) older l = omega (arith, late-total zero newer older (omega arith))
+late-total (suc n) (e ∷ newer) older l = late-total n newer older (omega arith)
+
+newest-is : (newer : List Entry) (a : Entry) (older : List Entry) → Rising (newer ++ a ∷ older) → newest (newer ++ a ∷ older) ≡ a .number + length newer
+unfolding newest Rising
+newest-is [] a older r = omega arith
+newest-is (e ∷ []) a older r = omega (arith, r .0)
+newest-is (e ∷ d ∷ newer) a older r = omega (arith, r .0, newest-is (d ∷ newer) a older (r .1))
+
+-- Demand 3 in packet numbers: packets are numbered from 1 as they arrive in the list, and packet n of those up to accepted slot a has left by the end of accepted slot
+-- a + G - 1.
+pub packet-left : (f : ℕ) (σ₀ : State) (l : Log) (σ : State) → Run own σ₀ l σ → Begins f σ₀ → Allowed f (σ₀ .site) l
+    → (newer older : List Entry) (a : Entry) → slotsOf f l ≡ newer ++ a ∷ older → a .number + boundOf own (σ₀ .site) f - 1 ≤ newest (slotsOf f l)
+    → (n : ℕ) → n ≤ total (arrivals (a ∷ older)) → HasLeft n (cellsOf f (σ .counters))
+packet-left f σ₀ l σ run b d newer older a e late n h =
+    omega (
+      arith,
+      rw e at (demand3 f σ₀ l σ run b d .delay),
+      late-total (boundOf own (σ₀ .site) f - 1) newer (a ∷ older)
+          (omega (arith, rw e at late, newest-is newer a older (rw e at (d .rising)), bound-some (σ₀ .site) (b .passes) f (b .living))),
+    )
+
+-- What an accepted admission leaves is a beginning for the new flow, and what an accepted start leaves is one for every live flow.
+pub admission-begins : (v : Service) (σ σ′ : State) (g : Flow) → Promise v (admit g) σ (accepted tt) σ′ → Begins (g .number) σ′
+unfolding Promise
+admission-begins v σ σ′ g p =
+    let a = admit-accepted (σ .site) (σ′ .site) (σ .counters) (σ′ .counters) g p in
+    let c = cells-after (σ .counters) (g .number) (a .0 .counted) (a .0 .good .within .number-most) in record {
+      passes = rw (a .1) (admitted-passes (σ .site) (σ .counters) g (a .0));
+      counted = rw (a .2) (c .0);
+      living = rw (a .1) (live-with (σ .site) g (omega (arith, a .0 .good .within .number-most, a .0 .sound .formed .shape .states)));
+      empty = rw (a .2) (c .1);
+    }
+
+pub start-begins : (v : Service) (σ σ′ : State) (f : ℕ) → live (σ .site) f ≡ true → Promise v start σ (accepted tt) σ′ → Begins f σ′
+unfolding Promise
+start-begins v σ σ′ f on p =
+    let a = start-accepted (σ .site) (σ .counters) (σ′ .counters) (p .0) in record {
+      passes = rw (p .1) (passes-sound (σ .site) .1 (a .1));
+      counted = rw (a .2) (length-zeros 576);
+      living = rw (p .1) on;
+      empty = rw (a .2) (start-cells f (live-few (σ .site) (a .1 .formed) f on));
+    }
+
 -- Every call has an answer and leaves a state, and so every list of calls, newest first, has a run.
-answered : (c : Call) (σ : State) → (a : Ruling) × (σ′ : State) × Promise c σ a σ′
+call-answered : (v : Service) (c : Call) (σ : State) → (a : Ruling) × (σ′ : State) × Promise v c σ a σ′
 unfolding Promise
-answered (admit f) σ = let w = admitOf (σ .site) (σ .counters) f in (w .0, record { site = w .1; counters = w .2 }, refl)
-answered (release n) σ = let w = releaseOf (σ .site) (σ .counters) n in (w .0, record { site = w .1; counters = w .2 }, refl)
+call-answered v (slot t xs) σ = let w = slotOf v (σ .site) (σ .counters) xs t in (w .0, record { site = σ .site; counters = w .1 }, (refl, refl))
+call-answered v (admit f) σ = let w = admitOf (σ .site) (σ .counters) f in (w .0, record { site = w .1; counters = w .2 }, refl)
+call-answered v (release n) σ = let w = releaseOf (σ .site) (σ .counters) n in (w .0, record { site = w .1; counters = w .2 }, refl)
+call-answered v start σ = let w = startOf (σ .site) (σ .counters) in (w .0, record { site = σ .site; counters = w .1 }, (refl, refl))
 
-pub every-list : (σ₀ : State) (cs : List Call) → (l : Log) × (σ : State) × Run σ₀ l σ × (map (λ (e : Call × Ruling). e .0) l ≡ cs)
-every-list σ₀ [] = ([], σ₀, none, refl)
-every-list σ₀ (c ∷ cs) = go (every-list σ₀ cs)
+pub every-list : (v : Service) (σ₀ : State) (cs : List Call) → (l : Log) × (σ : State) × Run v σ₀ l σ × (map (λ (e : Call × Ruling). e .0) l ≡ cs)
+every-list v σ₀ [] = ([], σ₀, none, refl)
+every-list v σ₀ (c ∷ cs) = go (every-list v σ₀ cs)
   where
-    go : (l : Log) × (σ : State) × Run σ₀ l σ × (map (λ (e : Call × Ruling). e .0) l ≡ cs)
-        → (l : Log) × (σ : State) × Run σ₀ l σ × (map (λ (e : Call × Ruling). e .0) l ≡ c ∷ cs)
-    go (l, σ, r, e) = let w = answered c σ in ((c, w .0) ∷ l, w .1, then c (w .0) (w .1) r (w .2), rw e)
+    go : (l : Log) × (σ : State) × Run v σ₀ l σ × (map (λ (e : Call × Ruling). e .0) l ≡ cs)
+        → (l : Log) × (σ : State) × Run v σ₀ l σ × (map (λ (e : Call × Ruling). e .0) l ≡ c ∷ cs)
+    go (l, σ, r, e) = let w = call-answered v c σ in ((c, w .0) ∷ l, w .1, then c (w .0) (w .1) r (w .2), rw e)
 
--- One call, accepted or refused.
-call-passes : (σ σ′ : State) (c : Call) (a : Ruling) → Promise c σ a σ′ → passesOf (σ .site) ≡ true → passesOf (σ′ .site) ≡ true
+-- One call, accepted or refused: a site that passes check 14 passes it afterwards, and 576 counters are 576 still.
+abbrev Keeps : State → State → Type 0
+Keeps σ σ′ = (passesOf (σ .site) ≡ true → passesOf (σ′ .site) ≡ true) × (length (σ .counters) ≡ 576 → length (σ′ .counters) ≡ 576)
+
+keeps-same : (σ σ′ : State) → σ′ .site ≡ σ .site → σ′ .counters ≡ σ .counters → Keeps σ σ′
+keeps-same σ σ′ e f = (λ p. rw e p, λ c. rw f c)
+
+call-keeps : (v : Service) (σ σ′ : State) (c : Call) (a : Ruling) → Promise v c σ a σ′ → Keeps σ σ′
 unfolding Promise
-call-passes σ σ′ (admit f) (accepted tt) p e =
-    let w = admit-accepted (σ .site) (σ′ .site) (σ .counters) (σ′ .counters) f p in rw (w .1) (admitted-passes (σ .site) (σ .counters) f (w .0))
-call-passes σ σ′ (admit f) (refused number place) p e =
-    rw (admit-refused (σ .site) (σ′ .site) (σ .counters) (σ′ .counters) f number place p .0) e
-call-passes σ σ′ (release n) (accepted tt) p e =
-    rw (release-accepted (σ .site) (σ′ .site) (σ .counters) (σ′ .counters) n p .1) (flow-taken (σ .site) e n)
-call-passes σ σ′ (release n) (refused number place) p e =
-    rw (release-refused (σ .site) (σ′ .site) (σ .counters) (σ′ .counters) n number place p .0) e
+call-keeps v σ σ′ (slot t xs) (accepted tt) p =
+    let w = slot-accepted (σ .site) (σ .counters) (σ′ .counters) v xs t (p .0) in
+    (λ e. rw (p .1) e, λ c. rw (w .1) (slot-cells v (σ .site) (σ .counters) xs t c .0))
+call-keeps v σ σ′ (slot t xs) (refused number place) p =
+    keeps-same σ σ′ (p .1) (slot-refused (σ .site) (σ .counters) (σ′ .counters) v xs t number place (p .0))
+call-keeps v σ σ′ (admit f) (accepted tt) p =
+    let w = admit-accepted (σ .site) (σ′ .site) (σ .counters) (σ′ .counters) f p in (
+      λ e. rw (w .1) (admitted-passes (σ .site) (σ .counters) f (w .0)),
+      λ c. rw (w .2) (cells-after (σ .counters) (f .number) c (w .0 .good .within .number-most) .0),
+    )
+call-keeps v σ σ′ (admit f) (refused number place) p =
+    let w = admit-refused (σ .site) (σ′ .site) (σ .counters) (σ′ .counters) f number place p in keeps-same σ σ′ (w .0) (w .1)
+call-keeps v σ σ′ (release n) (accepted tt) p =
+    let w = release-accepted (σ .site) (σ′ .site) (σ .counters) (σ′ .counters) n p in
+    (λ e. rw (w .1) (flow-taken (σ .site) e n), λ c. rw (w .2) (cells-after (σ .counters) n c (w .0 .few) .0))
+call-keeps v σ σ′ (release n) (refused number place) p =
+    let w = release-refused (σ .site) (σ′ .site) (σ .counters) (σ′ .counters) n number place p in keeps-same σ σ′ (w .0) (w .1)
+call-keeps v σ σ′ start (accepted tt) p =
+    (λ e. rw (p .1) e, λ c. rw (start-accepted (σ .site) (σ .counters) (σ′ .counters) (p .0) .2) (length-zeros 576))
+call-keeps v σ σ′ start (refused number place) p =
+    keeps-same σ σ′ (p .1) (start-refused (σ .site) (σ .counters) (σ′ .counters) number place (p .0))
 
-run-passes : {σ₀ σ : State} {l : Log} → Run σ₀ l σ → passesOf (σ₀ .site) ≡ true → passesOf (σ .site) ≡ true
-run-passes none e = e
-run-passes (then {σ = σ} c a σ′ r p) e = call-passes σ σ′ c a p (run-passes r e)
+run-keeps : (v : Service) {σ₀ σ : State} {l : Log} → Run v σ₀ l σ → Keeps σ₀ σ
+run-keeps v none = (λ e. e, λ c. c)
+run-keeps v (then {σ = σ} c a σ′ r p) =
+    let before = run-keeps v r in let now = call-keeps v σ σ′ c a p in (λ e. now .0 (before .0 e), λ n. now .1 (before .1 n))
 
--- After every list of admissions and releases, refused ones included, a site that passed check 14 passes it, and its plan bytes and the site turn into each other
--- without change.
-pub calls-exchanged : (σ₀ σ : State) (l : Log) → Run σ₀ l σ → passesOf (σ₀ .site) ≡ true → Exchanged (σ .site)
-calls-exchanged σ₀ σ l r e =
-    let passes = run-passes r e in
+-- So check 14 lets the site pass all along a list.
+pub run-passes : (v : Service) (σ₀ σ : State) (l : Log) → Run v σ₀ l σ → passesOf (σ₀ .site) ≡ true → passesOf (σ .site) ≡ true
+run-passes v σ₀ σ l run e = run-keeps v run .0 e
+
+-- And from a beginning on no start is refused: each begins a list of its own.
+pub start-unrefused : (v : Service) (f : ℕ) (σ₀ σ σ′ : State) (l : Log) → Run v σ₀ l σ → Begins f σ₀ → (number place : ℕ)
+    → Promise v start σ (refused number place) σ′ → ⊥
+unfolding Promise startOf recounted
+start-unrefused v f σ₀ σ σ′ l run b number place p =
+    let keeps = run-keeps v run in
+    let rule : startRuling (σ .site) (σ .counters) ≡ refused number place = sym (ap (λ (q : Ruling × List ℕ). q .0) (p .0)) in
+    refused-not _ rule (starts-when (σ .site) (σ .counters) .1 (keeps .1 (b .counted), passes-sound (σ .site) .0 (keeps .0 (b .passes))))
+
+-- After every list of calls, refused ones included, the plan bytes of a site that passed check 14 and the site turn into each other without change.
+pub calls-exchanged : (v : Service) (σ₀ σ : State) (l : Log) → Run v σ₀ l σ → passesOf (σ₀ .site) ≡ true → Exchanged (σ .site)
+calls-exchanged v σ₀ σ l run e =
+    let passes = run-passes v σ₀ σ l run e in
     record {
       passes = passes;
       written-read = plan.written-read (σ .site) passes;
@@ -66,11 +188,11 @@ calls-exchanged σ₀ σ l r e =
     }
 
 -- After a release the site is the one that is read from the plan bytes without that FLOW.
-pub release-fresh : (σ σ′ : State) (n : ℕ) → Promise (release n) σ (accepted tt) σ′
+pub release-fresh : (v : Service) (σ σ′ : State) (n : ℕ) → Promise v (release n) σ (accepted tt) σ′
     → (planBytes (σ .site) ≡ bytesBefore (σ .site) n ++ (flowBytes (σ .site) n ++ bytesBehind (σ .site) n))
     × (readOf (bytesBefore (σ .site) n ++ bytesBehind (σ .site) n) ≡ accepted (σ′ .site))
 unfolding Promise flowIfLive flowOf withoutFlow
-release-fresh σ σ′ n p =
+release-fresh v σ σ′ n p =
     let w = release-accepted (σ .site) (σ′ .site) (σ .counters) (σ′ .counters) n p in
     let sound = w .0 .sound in
     let fits = live-fits (σ .site) (sound .formed) n (w .0 .living) in
@@ -85,9 +207,9 @@ release-fresh σ σ′ n p =
 pub nodes-pass : (s : Site) → passesOf s ≡ true → passesOf (nodesAlone s) ≡ true
 nodes-pass s e = rw (← below-none s (passes-sound s .0 e .formed .shape)) (below-passes s e 0 (omega arith))
 
-pub flows-admitted : (s : Site) → passesOf s ≡ true → (counters : List ℕ) → length counters ≡ 576
-    → (ds : List ℕ) × Run (record { site = nodesAlone s; counters = counters }) (admissions s 64) (record { site = s; counters = ds })
-flows-admitted s e counters long =
+pub flows-admitted : (v : Service) (s : Site) → passesOf s ≡ true → (counters : List ℕ) → length counters ≡ 576
+    → (ds : List ℕ) × Run v (record { site = nodesAlone s; counters = counters }) (admissions s 64) (record { site = s; counters = ds })
+flows-admitted v s e counters long =
     let shape = passes-sound s .0 e .formed .shape in
-    let w = reach s e counters long 64 (omega arith) in
+    let w = reach s e v counters long 64 (omega arith) in
     (w .0, rw (below-none s shape, below-all s shape) at (w .2))

@@ -18,6 +18,7 @@ use Rattle.plan.proofs.Laws.Lists.{upto, upto-below, upto-above, upto-zeros, up
 use Rattle.counters.specs.Blocks.{withCells, zeros}
 use Rattle.admission.specs.Calls.{admitOf}
 use Rattle.admission.proofs.Laws.{releases-when, cells-after, released-again}
+use Rattle.simulation.specs.Hops.{Service}
 use Rattle.guarantee.specs.Runs.{admit, State, Promise, Run, none, then, admissions}
 use Rattle.guarantee.specs.Words.{nodesAlone}
 
@@ -98,16 +99,16 @@ module _ (s : Site) (e : passesOf s ≡ true) where
   abbrev at : ℕ → List ℕ → State
   at k ds = record { site = flowsBelow k s; counters = ds }
 
-  abbrev Reached : List ℕ → ℕ → Type 0
-  Reached cs k = (ds : List ℕ) × (length ds ≡ 576) × Run (at 0 cs) (admissions s k) (at k ds)
+  abbrev Reached : Service → List ℕ → ℕ → Type 0
+  Reached v cs k = (ds : List ℕ) × (length ds ≡ 576) × Run v (at 0 cs) (admissions s k) (at k ds)
 
-  pub reach : (cs : List ℕ) → length cs ≡ 576 → (k : ℕ) → k ≤ 64 → Reached cs k
+  pub reach : (v : Service) (cs : List ℕ) → length cs ≡ 576 → (k : ℕ) → k ≤ 64 → Reached v cs k
   unfolding admissions Promise
-  reach cs counted zero l = (cs, counted, none)
-  reach cs counted (suc k) l = go (live s k) refl (reach cs counted k (omega arith))
+  reach v cs counted zero l = (cs, counted, none)
+  reach v cs counted (suc k) l = go (live s k) refl (reach v cs counted k (omega arith))
     where
-      go : (b : Bool) → live s k ≡ b → Reached cs k
-          → (ds : List ℕ) × (length ds ≡ 576) × Run (at 0 cs) (cond b ((admit (flowOf s k), accepted tt) ∷ admissions s k) (admissions s k)) (at (suc k) ds)
+      go : (b : Bool) → live s k ≡ b → Reached v cs k
+          → (ds : List ℕ) × (length ds ≡ 576) × Run v (at 0 cs) (cond b ((admit (flowOf s k), accepted tt) ∷ admissions s k) (admissions s k)) (at (suc k) ds)
       go true t (ds, long, run) = (
         withCells k (zeros 9) ds,
         cells-after ds k long (omega arith) .0,

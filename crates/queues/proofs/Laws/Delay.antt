@@ -57,9 +57,20 @@ since-below rate h (e ∷ s) v r = go (lt-or-le (since h (e ∷ s)) (h .gap)) (s
         at : (t : ℕ) × (e .number + 1 - h .gap ≤ t) × (t < e .number + 1 - h .gap + h .gap) × (h .sends t ≡ true) → since h (e ∷ s) < h .gap
         at (t, a, b, c) = absurd (false≢true (sym (q .none t (omega (arith, q .long)) (omega (arith, q .long))) ∙ c))
 
+pub rising-rest : (e : Entry) (s : List Entry) → Rising (e ∷ s) → Rising s
+unfolding Rising
+rising-rest e [] r = tt
+rising-rest e (d ∷ s) r = r .1
+
 drop-tail : (n x : ℕ) (xs : List ℕ) → 0 < n → drop n (x ∷ xs) ≡ drop (n - 1) xs
 drop-tail zero x xs l = absurd (omega arith)
 drop-tail (suc n) x xs l = let e : suc n - 1 ≡ n = omega arith in rw e
+
+-- A route that serves spans at least one slot.
+pub span-some : (rate : ℕ) (hs : List Hop) → 1 ≤ length hs → All (Serves rate) hs → 1 ≤ span hs
+unfolding span All
+span-some rate [] some v = absurd (omega arith)
+span-some rate (h ∷ hs) some v = let w = v .0 .often 0 in omega (arith, w .1, w .2)
 
 nine-cells : (hs : List Hop) (s : List Entry) → length (steps hs (zeros 9) s) ≡ 9
 nine-cells hs s = length-steps hs (zeros 9) s ∙ length-zeros 9
@@ -131,11 +142,6 @@ module _ (rate : ℕ) (curve : List ℕ → ℕ) (c : Curve rate curve) where
   ontime-start G (h ∷ hs) zero l = absurd (omega arith)
   ontime-start G (h ∷ hs) (suc n) l = (rw drop-nil (omega (arith, c .none)), ontime-start (G + h .gap) hs n (omega arith))
 
-  rising-rest : (e : Entry) (s : List Entry) → Rising (e ∷ s) → Rising s
-  unfolding Rising
-  rising-rest e [] r = tt
-  rising-rest e (d ∷ s) r = r .1
-
   ontime-steps : (h : Hop) (hs : List Hop) (s : List Entry) → length (h ∷ hs) ≤ 8 → All (Serves rate) (h ∷ hs) → Rising s
       → OnTime 0 s (h ∷ hs) (steps (h ∷ hs) (zeros 9) s)
   unfolding steps step total
@@ -181,11 +187,6 @@ module _ (rate : ℕ) (curve : List ℕ → ℕ) (c : Curve rate curve) where
   waiting-after hs s ahead some few v r a =
       omega (arith, a, arrivals-kept hs s few, delivered-by hs s some few v r, earlier (span hs - 1) (arrivals s))
 
-  span-some : (hs : List Hop) → 1 ≤ length hs → All (Serves rate) hs → 1 ≤ span hs
-  unfolding span All
-  span-some [] some v = absurd (omega arith)
-  span-some (h ∷ hs) some v = let w = v .0 .often 0 in omega (arith, w .1, w .2)
-
   -- .. and in a slot, when its x arrivals have just joined.
   pub waiting-within : (hs : List Hop) (s : List Entry) (ahead x : ℕ) → 1 ≤ length hs → length hs ≤ 8 → All (Serves rate) hs → Rising s
       → x + total (arrivals s) ≤ curve (x ∷ arrivals s) + ahead → waiting (arrived x (steps hs (zeros 9) s)) ≤ rate * span hs + ahead
@@ -195,7 +196,7 @@ module _ (rate : ℕ) (curve : List ℕ → ℕ) (c : Curve rate curve) where
         a,
         arrivals-kept hs s few,
         delivered-by hs s some few v r,
-        rw (drop-tail (span hs) x (arrivals s) (span-some hs some v)) at (earlier (span hs) (x ∷ arrivals s)),
+        rw (drop-tail (span hs) x (arrivals s) (span-some rate hs some v)) at (earlier (span hs) (x ∷ arrivals s)),
         waiting-arrived x (steps hs (zeros 9) s) (nine-cells hs s),
       )
 
