@@ -9,7 +9,7 @@ use Rattle.site.specs.Sites.{ofLink, live, withFlow, withSchedule}
 use Rattle.site.specs.Tree.{up, depthIn, depthOf, climb, route, has}
 use Rattle.site.specs.Sites.{used}
 use Rattle.schedule.specs.Schedule.{gapsFrom, gapsUnder, rank, dealtUnder, baseOf, baseUnder, crowded, firstCrowded}
-use Rattle.schedule.specs.Schedule.{entryDealt, listed, offsetsDealt, periodsDealt, scheduled}
+use Rattle.schedule.specs.Schedule.{entryDealt, listed, offsetsDealt, periodsDealt, scheduled, linkSends}
 use Rattle.site.specs.Reservations.{gapsJudged, routeOf, widthAt, widthOn, sumTo, load, over, firstOver, unfit, firstUnfit, along, late, firstLate}
 use Rattle.schedule.specs.Judge.{withSite, reserved, judgeOf}
 use Rattle.limits.specs.Limits.{badNode, badFlow, nodeLimits, misplaced, flowLimits}
@@ -19,10 +19,13 @@ use Rattle.reader.specs.Read.{nodeAt, flowAt, nodeFault, flowFault, fault}
 use Rattle.reader.specs.Read.{withNode, nodeAdded, flowAdded, after, endOf, decodeFrom, decode, judgeForm, readOf}
 use Rattle.writer.specs.Write.{linkBytes, scheduleBytes, written, siteFault, writtenIf}
 use Rattle.limits.specs.Check.{shaped, nodeOf, flowOf, illNode, illFlow, firstIllNode, firstIllFlow, formed, same, accepts, stands, passesOf, callFault}
-use Rattle.counters.specs.Blocks.{block, withBlock, withCells, zeros}
+use Rattle.counters.specs.Blocks.{block, withBlock, cellsOf, withCells, zeros}
 use Rattle.admission.specs.Calls.{change, admitRuling, admitOf}
+use Rattle.queues.specs.Cells.{moved, arrived, delivering, passed, step}
+use Rattle.simulation.specs.Hops.{hopsAlong, hopsOf}
+use Rattle.simulation.specs.Slot.{recounted, overflows, firstOverflow, unexpected, firstUnexpected, slotRuling, cellsAfter, slotOf}
 use Rattle.marked.specs.Table.{All, table}
 
 pub table-holds : All table
-unfolding checked settled block withBlock withCells zeros unfit firstUnfit callFault change admitRuling admitOf last first any total largest least smallest exponent period sum limit fits base periodsOf sends earlier taken freeOffset turn level levels offsetsFor offsetsOf badGap firstBad dealt ofLink live withFlow withSchedule up depthIn depthOf climb route has used gapsFrom gapsUnder rank dealtUnder baseOf baseUnder crowded firstCrowded entryDealt listed offsetsDealt periodsDealt scheduled gapsJudged routeOf widthAt widthOn sumTo load over firstOver along late firstLate withSite reserved judgeOf numberAt bytesOf nodeAt flowAt badNode badFlow nodeLimits misplaced flowLimits nodeFault flowFault sizeOf fault withNode nodeAdded flowAdded after endOf decodeFrom decode judgeForm readOf linkBytes joined scheduleBytes written siteFault writtenIf shaped nodeOf flowOf illNode illFlow firstIllNode firstIllFlow formed same accepts stands passesOf
-table-holds = (refl, (refl, (refl, (refl, (refl, (refl, (refl, (refl, (refl, (refl, (refl, (refl, tt))))))))))))
+unfolding moved arrived delivering passed step hopsAlong hopsOf cellsOf linkSends recounted overflows firstOverflow unexpected firstUnexpected slotRuling cellsAfter slotOf checked settled block withBlock withCells zeros unfit firstUnfit callFault change admitRuling admitOf last first any total largest least smallest exponent period sum limit fits base periodsOf sends earlier taken freeOffset turn level levels offsetsFor offsetsOf badGap firstBad dealt ofLink live withFlow withSchedule up depthIn depthOf climb route has used gapsFrom gapsUnder rank dealtUnder baseOf baseUnder crowded firstCrowded entryDealt listed offsetsDealt periodsDealt scheduled gapsJudged routeOf widthAt widthOn sumTo load over firstOver along late firstLate withSite reserved judgeOf numberAt bytesOf nodeAt flowAt badNode badFlow nodeLimits misplaced flowLimits nodeFault flowFault sizeOf fault withNode nodeAdded flowAdded after endOf decodeFrom decode judgeForm readOf linkBytes joined scheduleBytes written siteFault writtenIf shaped nodeOf flowOf illNode illFlow firstIllNode firstIllFlow formed same accepts stands passesOf
+table-holds = (refl, (refl, (refl, (refl, (refl, (refl, (refl, (refl, (refl, (refl, (refl, (refl, (refl, tt)))))))))))))

@@ -1,6 +1,6 @@
 -- The starred examples of 01, "Marked plans", as one table. A row names an input and its whole result; what it claims is said by the
 -- definitions that the promises cite.
-use Prim.Native.Nat.{ℕ, _+_}
+use Prim.Native.Nat.{ℕ, zero, suc, _+_}
 use mathlib.Core.Path.{_≡_}
 use mathlib.Core.List.{List, [], _∷_, _++_}
 use lib.ListN.{length, replicate}
@@ -14,6 +14,8 @@ use Rattle.schedule.specs.Judge.{withSite}
 use Rattle.reader.specs.Read.{readOf}
 use Rattle.writer.specs.Write.{scheduleBytes, writtenIf}
 use Rattle.admission.specs.Calls.{admitOf}
+use Rattle.simulation.specs.Hops.{own}
+use Rattle.simulation.specs.Slot.{slotOf}
 
 pub data Row : Type 0 where
   -- The slot rule called alone on these gaps and on lists with these offsets and periods: outcome, offsets, periods.
@@ -24,10 +26,17 @@ pub data Row : Type 0 where
   schedules : List ℕ → List ℕ → Row
   -- A plan's bytes, counters and a flow, and what admitting it on the site read answers, the site that it gives and the counters then.
   admits : List ℕ → List ℕ → Flow → Ruling × Site × List ℕ → Row
+  -- A plan's bytes, counters, the arrivals of each of so many slots, which have the numbers from 0 on, and what the last of them answers and leaves.
+  plays : List ℕ → List ℕ → List ℕ → ℕ → Ruling × List ℕ → Row
 
 -- What is written of the schedule of the site that a plan reads to.
 abbrev scheduleOf : Ruling × Site → List ℕ → Outcome ℕ × List ℕ
 scheduleOf (verdict, s) out = writtenIf s (scheduleBytes (s .links) (s .offsets) (s .periods)) out
+
+-- n slots with the numbers from t on, each with these arrivals and on the counters that the one before left.
+abbrev played : Site → List ℕ → ℕ → ℕ → Ruling × List ℕ → Ruling × List ℕ
+played s arrivals zero t (r, cells) = (r, cells)
+played s arrivals (suc n) t (r, cells) = played s arrivals n (t + 1) (slotOf own s cells arrivals t)
 
 -- Plan P, with the low byte of link 3's capacity and that of flow 0's deadline left open.
 abbrev planP : ℕ → ℕ → List ℕ
@@ -50,16 +59,16 @@ siteP states entries rates deadlines = record {
 }
 
 -- P as it is read, and P with number 5 at node 2, rate 3 and deadline 6.
-abbrev before : Site
-before = siteP (1 ∷ replicate 63 0) (3 ∷ replicate 63 0) (3 ∷ replicate 63 0) (7 ∷ replicate 63 0)
+abbrev pub readP : Site
+readP = siteP (1 ∷ replicate 63 0) (3 ∷ replicate 63 0) (3 ∷ replicate 63 0) (7 ∷ replicate 63 0)
 
-abbrev after : Site
-after =
+abbrev admittedP : Site
+admittedP =
     siteP (1 ∷ 0 ∷ 0 ∷ 0 ∷ 0 ∷ 1 ∷ replicate 58 0) (3 ∷ 0 ∷ 0 ∷ 0 ∷ 0 ∷ 2 ∷ replicate 58 0)
     (3 ∷ 0 ∷ 0 ∷ 0 ∷ 0 ∷ 3 ∷ replicate 58 0) (7 ∷ 0 ∷ 0 ∷ 0 ∷ 0 ∷ 6 ∷ replicate 58 0)
 
 -- r counters from number i on, no two equal; the last of all 576 is 4,294,967,295.
-abbrev counters : ℕ → ℕ → List ℕ
+abbrev pub counters : ℕ → ℕ → List ℕ
 counters r i = listed (λ k. 4294966720 + k) r i
 
 -- What a row claims.
@@ -68,6 +77,7 @@ Holds (deals gaps offsets periods result) = dealt 2 gaps offsets periods ≡ res
 Holds (reads plan result) = withSite (readOf plan) ≡ result
 Holds (schedules plan bytes) = scheduleOf (withSite (readOf plan)) (replicate (length bytes) 0) ≡ (accepted (length bytes), bytes)
 Holds (admits plan cells flow result) = admitOf (withSite (readOf plan) .1) cells flow ≡ result
+Holds (plays plan cells arrivals n result) = played (withSite (readOf plan) .1) arrivals n 0 (accepted tt, cells) ≡ result
 
 abbrev pub All : List Row → Type 0
 All [] = Unit {0}
@@ -88,7 +98,9 @@ table =
     reads (planP 9 6) (refused 13 0, emptySite) ∷
     reads (planP 8 7) (refused 12 3, emptySite) ∷
     admits (planP 9 7) (counters 576 0) (record { number = 5; entry = 2; rate = 3; deadline = 6 })
-    (accepted tt, after, counters 45 0 ++ (replicate 9 0 ++ counters 522 54)) ∷
-    admits (planP 9 7) (counters 576 0) (record { number = 5; entry = 2; rate = 4; deadline = 6 }) (refused 17 2, before, counters 576 0) ∷
-    admits (planP 9 7) (counters 576 0) (record { number = 5; entry = 2; rate = 3; deadline = 5 }) (refused 18 5, before, counters 576 0) ∷
+    (accepted tt, admittedP, counters 45 0 ++ (replicate 9 0 ++ counters 522 54)) ∷
+    admits (planP 9 7) (counters 576 0) (record { number = 5; entry = 2; rate = 4; deadline = 6 }) (refused 17 2, readP, counters 576 0) ∷
+    admits (planP 9 7) (counters 576 0) (record { number = 5; entry = 2; rate = 3; deadline = 5 }) (refused 18 5, readP, counters 576 0) ∷
+    plays (planP 9 7) (replicate 9 0 ++ counters 567 9) (3 ∷ replicate 63 0) 17
+    (accepted tt, 3 ∷ 6 ∷ 0 ∷ 0 ∷ 0 ∷ 0 ∷ 0 ∷ 0 ∷ 42 ∷ counters 567 9) ∷
     []

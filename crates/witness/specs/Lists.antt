@@ -1,0 +1,63 @@
+-- Lists of calls on plan P, oldest first, and what they come to.
+use Prim.Native.Nat.{ℕ, zero, suc, _+_}
+use mathlib.Core.List.{List, [], _∷_, _++_}
+use lib.ListN.{replicate}
+use Rattle.pinwheel.specs.Outcome.{Ruling, accepted, refused}
+use Rattle.site.specs.declared.Flow.{Flow}
+use Rattle.admission.specs.Calls.{admitOf, releaseOf}
+use Rattle.simulation.specs.Hops.{own}
+use Rattle.simulation.specs.Slot.{slotOf, startOf}
+use Rattle.guarantee.specs.Runs.{Call, slot, admit, release, start, State, Log}
+use Rattle.marked.specs.Table.{readP, counters}
+
+-- What a call answers and leaves.
+unfoldable pub called : Call → State → Ruling × State
+called (slot t xs) σ = let w = slotOf own (σ .site) (σ .counters) xs t in (w .0, record { site = σ .site; counters = w .1 })
+called (admit f) σ = let w = admitOf (σ .site) (σ .counters) f in (w .0, record { site = w .1; counters = w .2 })
+called (release n) σ = let w = releaseOf (σ .site) (σ .counters) n in (w .0, record { site = w .1; counters = w .2 })
+called start σ = let w = startOf (σ .site) (σ .counters) in (w .0, record { site = σ .site; counters = w .1 })
+
+-- The log and the state after these calls, from a log and a state.
+unfoldable pub played : List Call → Log → State → Log × State
+played [] l σ = (l, σ)
+played (c ∷ cs) l σ = played cs ((c, called c σ .0) ∷ l) (called c σ .1)
+
+-- Plan P as it is read. The cells of flow 0 are 0, all others are not.
+unfoldable pub stateP : State
+stateP = record { site = readP; counters = replicate 9 0 ++ counters 567 9 }
+
+-- So many arrivals for flow 0, and for flow 5.
+abbrev pub arrivalsP : ℕ → ℕ → List ℕ
+arrivalsP x y = x ∷ 0 ∷ 0 ∷ 0 ∷ 0 ∷ y ∷ replicate 58 0
+
+-- The n slots from number t on with these arrivals; and the log with them on top, every one accepted.
+abbrev pub slotsFrom : ℕ → ℕ → List ℕ → List Call
+slotsFrom zero t xs = []
+slotsFrom (suc n) t xs = slot t xs ∷ slotsFrom n (t + 1) xs
+
+abbrev pub acceptedFrom : ℕ → ℕ → List ℕ → Log → Log
+acceptedFrom zero t xs l = l
+acceptedFrom (suc n) t xs l = (slot (t + n) xs, accepted tt) ∷ acceptedFrom n t xs l
+
+abbrev pub flowFive : Flow
+flowFive = record { number = 5; entry = 2; rate = 3; deadline = 6 }
+
+-- Flow 5 is admitted, and refused when it comes again; nine slots, in which it gets more than its rate; a slot with 63 arrivals, of any number, is refused; eight
+-- slots more, the last of number 16; flow 5 is released. In every slot flow 0 gets its rate.
+abbrev pub mixed : List Call
+mixed =
+    admit flowFive ∷ admit flowFive
+    ∷ (slotsFrom 9 0 (arrivalsP 3 40) ++ (slot 77 (replicate 63 9) ∷ (slotsFrom 8 9 (arrivalsP 3 0) ++ (release 5 ∷ []))))
+
+abbrev pub mixedLog : Log
+mixedLog =
+    (release 5, accepted tt)
+    ∷ acceptedFrom 8 9 (arrivalsP 3 0) ((slot 77 (replicate 63 9), refused 1 0) ∷ acceptedFrom 9 0 (arrivalsP 3 40) ((admit flowFive, refused 15 5) ∷ (admit flowFive, accepted tt) ∷ []))
+
+-- The slots 0 to 15 with three arrivals each.
+abbrev pub sixteen : List Call
+sixteen = slotsFrom 16 0 (arrivalsP 3 0)
+
+-- A lone packet in slot 10, and n slots after it.
+abbrev pub lone : ℕ → List Call
+lone n = slot 10 (arrivalsP 1 0) ∷ slotsFrom n 11 (arrivalsP 0 0)
