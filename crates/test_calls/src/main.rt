@@ -2,7 +2,6 @@
 // A line that begins with `P` gives the plan of a new site, one with `X` changes of its entries, and one with `C` the counters' value. `A`, `R` and
 // `L` call an operation with the operands that follow. A line that begins with `#` is printed as it stands.
 use schedule::Judged;
-use schedule::Verdict;
 use simulation::Lookup;
 use site::Flow;
 use site::Site;
@@ -123,21 +122,12 @@ fn print_counters(before: [u32; 577], after: [u32; 577]) {
     }
 }
 
-fn print_verdict(verdict: Verdict) {
-    match verdict {
-        Verdict::Accepted => {
-            io::write_all(1, b"accepted");
-        }
-        Verdict::Refused(number, place) => report::print_refusal(b"refused ", number, place),
-    }
-}
-
 // Prints what a call answered and changed; answers the site and the counters that it left.
 fn called(live: Live, judged: Judged, counters: [u32; 577]) -> Live {
     let verdict = judged.verdict;
     let site = judged.site;
     let counters_before = live.counters;
-    print_verdict(verdict);
+    report::print_verdict(verdict);
     print_site(live.site, site);
     print_counters(counters_before, counters);
     io::write_all(1, b"\n");
