@@ -10,14 +10,16 @@ use words::next_word;
 ghost use mathlib.Core.Path.{_≡_};
 ghost use lib.ListN.{length};
 
-// What a line asks for: nothing, a call with its operands, or something that is to be shown. A line that is none of these is malformed.
-pub enum Line {
-    Nothing,
-    Malformed,
+// A call that may change the site or the counters, with its operands; the arrivals of a slot stand beside it.
+pub enum Call {
     Start,
     Slot(u32),
     Admit(Flow),
     Release(u8),
+}
+
+// What can be shown of the site and the counters as they are.
+pub enum Question {
     Sender(u8, u32),
     Cells(u8),
     Bound(u8),
@@ -26,30 +28,38 @@ pub enum Line {
     Show,
 }
 
+// A line that is not passed over makes a call, asks a question or is malformed.
+pub enum Line {
+    PassedOver,
+    Makes(Call),
+    Asks(Question),
+    Malformed,
+}
+
 // Whether the line has no word or begins with `#`.
 fn passed_over(line: &[u8]) -> bool {
-    if blank(line, 0) {
-        return true;
-    }
     if line.len() == 0 {
         return true;
     }
-    line[0] == b'#'
+    if line[0] == b'#' {
+        return true;
+    }
+    blank(line, 0)
 }
 
 // A line of one word.
 fn lone_line(name: &[u8]) -> Line {
     if check::same(name, b"start") {
-        return Line::Start;
+        return Line::Makes(Call::Start);
     }
     if check::same(name, b"plan") {
-        return Line::Plan;
+        return Line::Asks(Question::Plan);
     }
     if check::same(name, b"schedule") {
-        return Line::Schedule;
+        return Line::Asks(Question::Schedule);
     }
     if check::same(name, b"show") {
-        return Line::Show;
+        return Line::Asks(Question::Show);
     }
     Line::Malformed
 }
@@ -62,16 +72,16 @@ fn flow_line(name: &[u8], line: &[u8], from: usize) -> Line {
     }
     let number = flow.value as u8;
     if check::same(name, b"release") {
-        return Line::Release(number);
+        return Line::Makes(Call::Release(number));
     }
     if 63 < number {
         return Line::Malformed;
     }
     if check::same(name, b"cells") {
-        return Line::Cells(number);
+        return Line::Asks(Question::Cells(number));
     }
     if check::same(name, b"bound") {
-        return Line::Bound(number);
+        return Line::Asks(Question::Bound(number));
     }
     Line::Malformed
 }
@@ -84,12 +94,12 @@ fn admit_line(line: &[u8], from: usize) -> Line {
     if !complete(line, deadline) {
         return Line::Malformed;
     }
-    Line::Admit(Flow {
+    Line::Makes(Call::Admit(Flow {
         number: number.value as u8,
         entry: entry.value as u8,
         rate: rate.value as u8,
         deadline: deadline.value as u16,
-    })
+    }))
 }
 
 fn sender_line(line: &[u8], from: usize) -> Line {
@@ -98,7 +108,7 @@ fn sender_line(line: &[u8], from: usize) -> Line {
     if !complete(line, slot) {
         return Line::Malformed;
     }
-    Line::Sender(parent.value as u8, slot.value)
+    Line::Asks(Question::Sender(parent.value as u8, slot.value))
 }
 
 // Puts the packets of a word N=K at flow number N; answers whether the word is of that form and the first that names the flow.
@@ -158,7 +168,7 @@ fn slot_line(line: &[u8], from: usize, arrivals: &mut [u16]) -> Line
     if !read_arrivals(line, slot.next, arrivals) {
         return Line::Malformed;
     }
-    Line::Slot(slot.value)
+    Line::Makes(Call::Slot(slot.value))
 }
 
 // Reads a line. The arrivals of a slot are put into the 64 numbers that are lent; those of flows that the line does not name stay as they are.
@@ -166,7 +176,7 @@ pub fn read_line(line: &[u8], arrivals: &mut [u16]) -> Line
     requires { ⌜ 64 ≡ length (now arrivals) ⌝ }
 {
     if passed_over(line) {
-        return Line::Nothing;
+        return Line::PassedOver;
     }
     let word = next_word(line, 0);
     let start = word.start;
