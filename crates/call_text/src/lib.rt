@@ -7,6 +7,7 @@ use words::complete;
 use words::decimal;
 use words::next_operand;
 use words::next_word;
+use words::same;
 ghost use mathlib.Core.Path.{_≡_};
 ghost use lib.ListN.{length};
 
@@ -49,16 +50,16 @@ fn passed_over(line: &[u8]) -> bool {
 
 // A line of one word.
 fn lone_line(name: &[u8]) -> Line {
-    if check::same(name, b"start") {
+    if same(name, b"start") {
         return Line::Makes(Call::Start);
     }
-    if check::same(name, b"plan") {
+    if same(name, b"plan") {
         return Line::Asks(Question::Plan);
     }
-    if check::same(name, b"schedule") {
+    if same(name, b"schedule") {
         return Line::Asks(Question::Schedule);
     }
-    if check::same(name, b"show") {
+    if same(name, b"show") {
         return Line::Asks(Question::Show);
     }
     Line::Malformed
@@ -71,16 +72,16 @@ fn flow_line(name: &[u8], line: &[u8], from: usize) -> Line {
         return Line::Malformed;
     }
     let number = flow.value as u8;
-    if check::same(name, b"release") {
+    if same(name, b"release") {
         return Line::Makes(Call::Release(number));
     }
     if 63 < number {
         return Line::Malformed;
     }
-    if check::same(name, b"cells") {
+    if same(name, b"cells") {
         return Line::Asks(Question::Cells(number));
     }
-    if check::same(name, b"bound") {
+    if same(name, b"bound") {
         return Line::Asks(Question::Bound(number));
     }
     Line::Malformed
@@ -185,13 +186,13 @@ pub fn read_line(line: &[u8], arrivals: &mut [u16]) -> Line
     if blank(line, end) {
         return lone_line(name);
     }
-    if check::same(name, b"slot") {
+    if same(name, b"slot") {
         return slot_line(line, end, arrivals);
     }
-    if check::same(name, b"admit") {
+    if same(name, b"admit") {
         return admit_line(line, end);
     }
-    if check::same(name, b"sender") {
+    if same(name, b"sender") {
         return sender_line(line, end);
     }
     flow_line(name, line, end)

@@ -49,6 +49,21 @@ pub fn next_word(line: &[u8], from: usize) -> Word
     Word { start, end }
 }
 
+// Whether the word has just the bytes of the name.
+pub fn same(word: &[u8], name: &[u8]) -> bool {
+    if word.len() != name.len() {
+        return false;
+    }
+    let mut i = 0;
+    while i < word.len() {
+        if word[i] != name[i] {
+            return false;
+        }
+        i += 1;
+    }
+    true
+}
+
 // The number of a word that is made of decimal digits alone, if it is at most `most`.
 pub fn decimal(word: &[u8], most: u32) -> Number
     ensures { λ r. ⌜ r .value ≤ most ⌝ }

@@ -113,8 +113,8 @@ fn print_plan(bytes: &[u8]) {
     let verdict = read.verdict;
     match verdict {
         Verdict::Accepted => print_site(read.site),
-        Verdict::Refused(number, place) => {
-            print_refusal(b"refused ", number, place);
+        Verdict::Refused(_, _) => {
+            print_verdict(verdict);
             io::write_all(1, b"\n");
         }
     }
