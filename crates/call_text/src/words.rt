@@ -36,12 +36,12 @@ fn after_spaces(line: &[u8], from: usize) -> usize
 }
 
 // Whether no word stands from `from` on.
-pub fn blank(line: &[u8], from: usize) -> bool {
+pub(crate) fn blank(line: &[u8], from: usize) -> bool {
     after_spaces(line, from) == line.len()
 }
 
 // The first word from `from` on.
-pub fn next_word(line: &[u8], from: usize) -> Word
+pub(crate) fn next_word(line: &[u8], from: usize) -> Word
     ensures { λ r. ⌜ (min from (length (now (line .entry))) ≤ r .start) × (r .start ≤ r .end) × (r .end ≤ length (now (line .entry))) ⌝ }
 {
     let start = after_spaces(line, from);
@@ -50,7 +50,7 @@ pub fn next_word(line: &[u8], from: usize) -> Word
 }
 
 // Whether the word has just the bytes of the name.
-pub fn same(word: &[u8], name: &[u8]) -> bool {
+pub(crate) fn same(word: &[u8], name: &[u8]) -> bool {
     if word.len() != name.len() {
         return false;
     }
@@ -65,7 +65,7 @@ pub fn same(word: &[u8], name: &[u8]) -> bool {
 }
 
 // The number of a word that is made of decimal digits alone, if it is at most `most`.
-pub fn decimal(word: &[u8], most: u32) -> Number
+pub(crate) fn decimal(word: &[u8], most: u32) -> Number
     ensures { λ r. ⌜ r .value ≤ most ⌝ }
 {
     let no_number = Number {
@@ -95,7 +95,7 @@ pub fn decimal(word: &[u8], most: u32) -> Number
 }
 
 // The next word as a number of at most `most`. Where it is none, no operand can follow either: `next` is the line's length.
-pub fn next_operand(line: &[u8], from: usize, most: u32) -> Operand
+pub(crate) fn next_operand(line: &[u8], from: usize, most: u32) -> Operand
     ensures { λ r. ⌜ (r .value ≤ most) × (r .next ≤ length (now (line .entry))) ⌝ }
 {
     let word = next_word(line, from);
@@ -117,7 +117,7 @@ pub fn next_operand(line: &[u8], from: usize, most: u32) -> Operand
 }
 
 // Whether this operand, and with it each before it, is given and is the last word of the line.
-pub fn complete(line: &[u8], last: Operand) -> bool {
+pub(crate) fn complete(line: &[u8], last: Operand) -> bool {
     if !last.given {
         return false;
     }
