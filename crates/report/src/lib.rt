@@ -1,4 +1,8 @@
-// What `slotplan` prints of a plan.
+// What the programs print: fields, verdicts, bytes in hexadecimal, and a site as `slotplan` shows it.
+mod hex;
+
+pub use hex::print_bytes;
+pub use hex::print_hex;
 use schedule::Verdict;
 use site::Site;
 ghost use Prim.Native.Nat.{_<_};
@@ -11,6 +15,15 @@ pub fn print_field(name: &[u8], value: u64) {
 pub fn print_refusal(name: &[u8], number: u8, place: usize) {
     print_field(name, number as u64);
     print_field(b" ", place as u64);
+}
+
+pub fn print_verdict(verdict: Verdict) {
+    match verdict {
+        Verdict::Accepted => {
+            io::write_all(1, b"accepted");
+        }
+        Verdict::Refused(number, place) => print_refusal(b"refused ", number, place),
+    }
 }
 
 fn print_slots(base: u16, offset: u16, period: u16) {
@@ -58,13 +71,21 @@ fn print_links(site: Site) {
     }
 }
 
-// Answers how many there are.
-fn print_flows(site: Site) -> u64 {
-    let mut count = 0;
+fn print_flows(site: Site) {
     let mut n = 0;
     while n < 64 {
         if site.states[n] == 1 {
             print_flow(site, n);
+        }
+        n += 1;
+    }
+}
+
+fn flow_count(site: Site) -> u64 {
+    let mut count = 0;
+    let mut n = 0;
+    while n < 64 {
+        if site.states[n] == 1 {
             count += 1;
         }
         n += 1;
@@ -72,12 +93,18 @@ fn print_flows(site: Site) -> u64 {
     count
 }
 
-fn print_accepted(site: Site) {
-    print_links(site);
-    let flows = print_flows(site);
+// The line of an accepted plan: how many links and flows its site has.
+pub fn print_counts(site: Site) {
     print_field(b"accepted links ", site.links as u64);
-    print_field(b" flows ", flows);
+    print_field(b" flows ", flow_count(site));
     io::write_all(1, b"\n");
+}
+
+// All lines of an accepted plan.
+pub fn print_site(site: Site) {
+    print_links(site);
+    print_flows(site);
+    print_counts(site);
 }
 
 // Reads the bytes as a plan and prints its links, its flows and their numbers, or the refusal.
@@ -85,9 +112,9 @@ fn print_plan(bytes: &[u8]) {
     let read = reader::read_plan(bytes);
     let verdict = read.verdict;
     match verdict {
-        Verdict::Accepted => print_accepted(read.site),
-        Verdict::Refused(number, place) => {
-            print_refusal(b"refused ", number, place);
+        Verdict::Accepted => print_site(read.site),
+        Verdict::Refused(_, _) => {
+            print_verdict(verdict);
             io::write_all(1, b"\n");
         }
     }

@@ -23,7 +23,7 @@ fn numbered() -> [u8; 64]
 fn print_written(name: &[u8], written: Written, out: &[u8]) {
     test_text::print_written(name, written);
     io::write_all(1, b":");
-    test_text::print_hex(out);
+    report::print_hex(out);
 }
 
 // What the check says, and what the writers, one after the other, answer and leave in the slice.

@@ -1,9 +1,9 @@
-// Admissions, releases and lookups of the sender, on a live site and counters that last from line to line.
-// A line that begins with `P` gives the plan of a new site, one with `X` changes of its entries, and one with `C` the counters' value. `A`, `R` and
-// `L` call an operation with the operands that follow. A line that begins with `#` is printed as it stands.
+// Admissions, releases, lookups of the sender, starts and slots, on a live site and counters that last from line to line.
+// A line that begins with `P` gives the plan of a new site, one with `X` changes of its entries, one with `C` the counters' value, and one with `K` the
+// value of a single counter. `A`, `R`, `L`, `T` and `S` call an operation with the operands that follow. A line that begins with `#` is printed as it
+// stands.
 use schedule::Judged;
 use schedule::Verdict;
-use simulation::Lookup;
 use site::Flow;
 use site::Site;
 
@@ -47,99 +47,14 @@ fn given(line: &[u8]) -> [u32; 577] {
     different()
 }
 
-// The value of a field's entry, by the numbers that `altered` takes, and 0 where there is no such entry.
-fn entry(site: Site, field: usize, index: usize) -> u64 {
-    if field == 0 {
-        if index == 0 {
-            return site.links as u64;
-        }
-    }
-    if index < 63 {
-        match field {
-            1 => return site.parents[index] as u64,
-            2 => return site.capacities[index] as u64,
-            3 => return site.gaps[index] as u64,
-            4 => return site.offsets[index] as u64,
-            5 => return site.periods[index] as u64,
-            _ => {}
-        }
-    }
-    if index < 64 {
-        match field {
-            6 => return site.states[index] as u64,
-            7 => return site.entries[index] as u64,
-            8 => return site.rates[index] as u64,
-            9 => return site.deadlines[index] as u64,
-            _ => {}
-        }
-    }
-    0
-}
-
-// The field, the index and the new value, if it is another.
-fn print_entry(before: Site, after: Site, field: usize, index: usize) {
-    let value = entry(after, field, index);
-    if entry(before, field, index) != value {
-        report::print_field(b" ", field as u64);
-        report::print_field(b" ", index as u64);
-        report::print_field(b" ", value);
-    }
-}
-
-// The entries of a field that differ.
-fn print_entries(before: Site, after: Site, field: usize) {
-    let mut index = 0;
-    while index < 64 {
-        print_entry(before, after, field, index);
-        index += 1;
-    }
-}
-
-// The entries of the site that differ.
-fn print_site(before: Site, after: Site) {
-    io::write_all(1, b" site");
-    let mut field = 0;
-    while field < 10 {
-        print_entries(before, after, field);
-        field += 1;
-    }
-}
-
-// The index and the new value, if it is another.
-fn print_counter(before: u32, after: u32, index: usize) {
-    if before != after {
-        report::print_field(b" ", index as u64);
-        report::print_field(b" ", after as u64);
-    }
-}
-
-// The counters that differ.
-fn print_counters(before: [u32; 577], after: [u32; 577]) {
-    io::write_all(1, b" counters");
-    let mut index = 0;
-    while index < 577 {
-        print_counter(before[index], after[index], index);
-        index += 1;
-    }
-}
-
-fn print_verdict(verdict: Verdict) {
-    match verdict {
-        Verdict::Accepted => {
-            io::write_all(1, b"accepted");
-        }
-        Verdict::Refused(number, place) => report::print_refusal(b"refused ", number, place),
-    }
-}
-
 // Prints what a call answered and changed; answers the site and the counters that it left.
 fn called(live: Live, judged: Judged, counters: [u32; 577]) -> Live {
     let verdict = judged.verdict;
     let site = judged.site;
     let counters_before = live.counters;
-    print_verdict(verdict);
-    print_site(live.site, site);
-    print_counters(counters_before, counters);
+    report::print_verdict(verdict);
+    test_changes::print_site(live.site, site);
+    test_changes::print_counters(counters_before, counters);
     io::write_all(1, b"\n");
     Live { site, counters }
 }
@@ -176,10 +91,7 @@ fn look_up(line: &[u8], site: Site) {
     let parent = test_text::low8(numbers[0]);
     let slot = test_text::low32(numbers[1]);
     let lookup = simulation::sender(site, parent, slot);
-    match lookup {
-        Lookup::Child(child) => report::print_field(b"sender ", child as u64),
-        Lookup::Refused(number, place) => report::print_refusal(b"refused ", number, place),
-    }
+    call_answers::print_lookup(lookup);
     io::write_all(1, b"\n");
 }
 
@@ -191,6 +103,88 @@ fn with_site(live: Live, site: Site) -> Live {
 fn with_counters(live: Live, counters: [u32; 577]) -> Live {
     let site = live.site;
     Live { site, counters }
+}
+
+// The live site with the counter that the line names set to the line's value, if there is such a counter.
+fn with_counter(line: &[u8], live: Live) -> Live {
+    let numbers = operands(line);
+    let index = numbers[0];
+    let mut counters = live.counters;
+    if index < 577 {
+        counters[index] = test_text::low32(numbers[1]);
+    }
+    with_counters(live, counters)
+}
+
+// Prints what a start or a slot answered and changed; answers the site with the counters that it left.
+fn run(live: Live, verdict: Verdict, counters: [u32; 577]) -> Live {
+    let counters_before = live.counters;
+    report::print_verdict(verdict);
+    test_changes::print_counters(counters_before, counters);
+    io::write_all(1, b"\n");
+    with_counters(live, counters)
+}
+
+// Makes the start of a line with `T`, whose operand says how many counters are lent.
+fn start(line: &[u8], live: Live) -> Live {
+    let numbers = operands(line);
+    let lent = numbers[0];
+    if 577 < lent {
+        return live;
+    }
+    let mut counters = live.counters;
+    let verdict = simulation::start(live.site, &mut counters[0..lent]);
+    run(live, verdict, counters)
+}
+
+// The arrivals with those of one flow number, if there is a place for it.
+fn placed(arrivals: [u16; 65], flow: usize, count: u16) -> [u16; 65] {
+    let mut next = arrivals;
+    if flow < 65 {
+        next[flow] = count;
+    }
+    next
+}
+
+// The arrivals that the pairs of the line from `from` on give; the last is passed over if it is not complete.
+fn arrivals_of(line: &[u8], from: usize) -> [u16; 65] {
+    let mut arrivals = [0u16; 65];
+    let mut at = from;
+    while at < line.len() {
+        let flow = test_text::next_number(line, at);
+        let count = test_text::next_number(line, flow.next);
+        if count.found {
+            let next = placed(arrivals, flow.value, test_text::low16(count.value));
+            arrivals = next;
+        }
+        at = count.next;
+    }
+    arrivals
+}
+
+// Makes the slot of a line with `S`, whose first two operands say how many counters and arrivals are lent.
+fn slot(line: &[u8], live: Live) -> Live {
+    let counters_lent = test_text::next_number(line, 0);
+    let arrivals_lent = test_text::next_number(line, counters_lent.next);
+    let number = test_text::next_number(line, arrivals_lent.next);
+    let lent = counters_lent.value;
+    let given = arrivals_lent.value;
+    if 577 < lent {
+        return live;
+    }
+    if 65 < given {
+        return live;
+    }
+    let arrivals = arrivals_of(line, number.next);
+    let mut counters = live.counters;
+    let slot_number = test_text::low32(number.value);
+    let verdict = simulation::slot(
+        live.site,
+        &mut counters[0..lent],
+        &arrivals[0..given],
+        slot_number,
+    );
+    run(live, verdict, counters)
 }
 
 // Answers the site and the counters from here on.
@@ -206,7 +200,10 @@ fn show_line(line: &[u8], live: Live) -> Live {
         b'P' => with_site(live, test_sites::read_site(line)),
         b'X' => with_site(live, test_sites::altered(live.site, line, 0)),
         b'C' => with_counters(live, given(line)),
+        b'K' => with_counter(line, live),
         b'A' | b'R' => call(line, live),
+        b'T' => start(line, live),
+        b'S' => slot(line, live),
         b'L' => {
             look_up(line, live.site);
             live

@@ -204,28 +204,6 @@ pub fn low32(value: usize) -> u32
     (value % 4294967296) as u32
 }
 
-fn glyph(digit: u8) -> u8
-    requires { ⌜ digit < 16 ⌝ }
-{
-    if digit < 10 {
-        return b'0' + digit;
-    }
-    b'A' + (digit - 10)
-}
-
-fn print_byte(byte: u8) {
-    io::write_all(1, &[b' ', glyph(byte / 16), glyph(byte % 16)]);
-}
-
-// Each byte as a space and two hexadecimal digits.
-pub fn print_hex(bytes: &[u8]) {
-    let mut i = 0;
-    while i < bytes.len() {
-        print_byte(bytes[i]);
-        i += 1;
-    }
-}
-
 // A writer's answer: the number of bytes, or the refusal.
 pub fn print_written(name: &[u8], written: Written) {
     io::write_all(1, name);

@@ -41,7 +41,7 @@ fn print_again(bytes: &[u8], site: Site, out: &mut [u8]) {
 // The first n bytes.
 fn print_first(bytes: &[u8], n: usize) {
     if n <= bytes.len() {
-        test_text::print_hex(&bytes[..n]);
+        report::print_hex(&bytes[..n]);
     }
 }
 

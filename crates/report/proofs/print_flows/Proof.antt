@@ -1,16 +1,14 @@
--- Right because the count is at most the number of flows passed, n, and n at most 64; 64 - n falls.
+-- Right because the number stays at most 64; 64 - n falls.
 use borrow.Author.Needs.{needs}
 use Prim.Native.Nat.{_≤_, _-_}
-use mathlib.Core.Logic.{⊎-elim}
-use native.Mathlib.Omega.{arith}
 use Rattle.report.proofs.print_flows.Statement.{statement}
 use Rattle.report.proofs.print_flows.Tie as tie
 
 abbrev Inv-loop : tie.InvT-loop
-Inv-loop site count₀ n₀ count n = (n ≤ 64) × (count ≤ n)
+Inv-loop site n₀ n = n ≤ 64
 
 abbrev μ-loop : tie.MeasureT-loop
-μ-loop site count₀ n₀ count n = 64 - n
+μ-loop site n₀ n = 64 - n
 
 loop-holds : tie.Need-loop-holds Inv-loop μ-loop
 loop-holds c = search needs
@@ -21,9 +19,6 @@ element-copy-out-if1 c = search needs
 print-flow-requires : tie.Need-print-flow-requires Inv-loop μ-loop
 print-flow-requires c κs = search needs
 
-add-count : tie.Need-add-count Inv-loop μ-loop
-add-count c = search needs
-
 add-n : tie.Need-add-n Inv-loop μ-loop
 add-n c = search needs
 
@@ -31,11 +26,10 @@ loop-less : tie.Need-loop-less Inv-loop μ-loop
 loop-less c = search needs
 
 loop-again : tie.Need-loop-again Inv-loop μ-loop
-loop-again c = (omega arith, ⊎-elim (λ w. omega arith) (λ w. omega arith) (c .if1 .came))
+loop-again c = search needs
 
 returns : tie.Need-returns Inv-loop μ-loop
 returns c = search needs
 
 pub print-flows-spec : {M : Type 1} → statement M
-print-flows-spec =
-    tie.close (tie.spec Inv-loop μ-loop loop-holds element-copy-out-if1 print-flow-requires add-count add-n loop-less loop-again returns)
+print-flows-spec = tie.close (tie.spec Inv-loop μ-loop loop-holds element-copy-out-if1 print-flow-requires add-n loop-less loop-again returns)

@@ -1,8 +1,8 @@
 -- Right because the index is at most 64; 64 - index falls.
 use borrow.Author.Needs.{needs}
 use Prim.Native.Nat.{_≤_, _-_}
-use Rattle.test_calls.proofs.print_entries.Statement.{statement}
-use Rattle.test_calls.proofs.print_entries.Tie as tie
+use Rattle.test_changes.proofs.print_entries.Statement.{statement}
+use Rattle.test_changes.proofs.print_entries.Tie as tie
 
 abbrev Inv-loop : tie.InvT-loop
 Inv-loop before after field index₀ index = index ≤ 64

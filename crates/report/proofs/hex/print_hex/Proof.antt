@@ -2,8 +2,8 @@
 use borrow.Author.Needs.{needs}
 use Prim.Native.Nat.{_≤_, _-_}
 use lib.ListN.{length}
-use Rattle.test_text.proofs.print_hex.Statement.{statement}
-use Rattle.test_text.proofs.print_hex.Tie as tie
+use Rattle.report.proofs.hex.print_hex.Statement.{statement}
+use Rattle.report.proofs.hex.print_hex.Tie as tie
 
 abbrev Inv-loop : tie.InvT-loop
 Inv-loop bytes i₀ i = i ≤ length bytes

@@ -1,8 +1,8 @@
 -- Right because the field is at most 10; 10 - field falls.
 use borrow.Author.Needs.{needs}
 use Prim.Native.Nat.{_≤_, _-_}
-use Rattle.test_calls.proofs.print_site.Statement.{statement}
-use Rattle.test_calls.proofs.print_site.Tie as tie
+use Rattle.test_changes.proofs.print_site.Statement.{statement}
+use Rattle.test_changes.proofs.print_site.Tie as tie
 
 abbrev Inv-loop : tie.InvT-loop
 Inv-loop before after field₀ field = field ≤ 10

@@ -1,8 +1,8 @@
 -- Right because the index stays below 577, as many counters as each list has; 577 - index falls.
 use borrow.Author.Needs.{needs}
 use Prim.Native.Nat.{_≤_, _-_}
-use Rattle.test_calls.proofs.print_counters.Statement.{statement}
-use Rattle.test_calls.proofs.print_counters.Tie as tie
+use Rattle.test_changes.proofs.print_counters.Statement.{statement}
+use Rattle.test_changes.proofs.print_counters.Tie as tie
 
 abbrev Inv-loop : tie.InvT-loop
 Inv-loop before after index₀ index = index ≤ 577

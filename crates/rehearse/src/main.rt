@@ -1,0 +1,167 @@
+// A planner tries a site by typing. The one argument names a file with the plan; each line of standard input asks for a call, or for something of
+// the site as it is now, and gets its answer.
+use call_text::Call;
+use call_text::Line;
+use call_text::Question;
+use schedule::Judged;
+use schedule::Verdict;
+use site::Site;
+
+// The site as it is now, and how many bytes are kept of the line that is being read: one more than its space has where it is too long.
+struct Rehearsal {
+    site: Site,
+    kept: usize,
+}
+
+fn print_error() {
+    io::write_all(1, b"error\n");
+}
+
+fn print_verdict(verdict: Verdict) {
+    report::print_verdict(verdict);
+    io::write_all(1, b"\n");
+}
+
+// Prints the verdict of an admission or a release; answers the site that it left.
+fn changed(judged: Judged) -> Site {
+    let verdict = judged.verdict;
+    print_verdict(verdict);
+    judged.site
+}
+
+// Makes a call and prints its verdict; answers the site that it left.
+fn called(call: Call, arrivals: &[u16], site: Site, counters: &mut [u32]) -> Site {
+    match call {
+        Call::Start => print_verdict(simulation::start(site, counters)),
+        Call::Slot(number) => print_verdict(simulation::slot(site, counters, arrivals, number)),
+        Call::Admit(flow) => return changed(admission::admit(site, counters, flow)),
+        Call::Release(number) => return changed(admission::release(site, counters, number)),
+    }
+    site
+}
+
+fn print_answer(question: Question, site: Site, counters: &[u32]) {
+    match question {
+        Question::Sender(parent, slot) => {
+            call_answers::print_lookup(simulation::sender(site, parent, slot))
+        }
+        Question::Cells(number) => call_answers::print_cells(counters, number),
+        Question::Bound(number) => call_answers::print_bound(site, number),
+        Question::Plan => call_answers::print_plan(site),
+        Question::Schedule => call_answers::print_schedule(site),
+        Question::Show => {
+            report::print_site(site);
+            return;
+        }
+    }
+    io::write_all(1, b"\n");
+}
+
+// Prints the answer to a line; answers the site from here on.
+fn answer(line: &[u8], site: Site, counters: &mut [u32]) -> Site {
+    let mut arrivals = [0u16; 64];
+    let read = call_text::read_line(line, &mut arrivals);
+    match read {
+        Line::PassedOver => {}
+        Line::Makes(call) => return called(call, &arrivals, site, counters),
+        Line::Asks(question) => print_answer(question, site, counters),
+        Line::Malformed => print_error(),
+    }
+    site
+}
+
+// Answers the line whose first bytes are in the space, or that it is too long.
+fn answer_space(space: &[u8], kept: usize, site: Site, counters: &mut [u32]) -> Site {
+    if space.len() < kept {
+        print_error();
+        return site;
+    }
+    answer(&space[0..kept], site, counters)
+}
+
+// Puts a byte of the line behind those that are there; answers how many there are then.
+fn keep(space: &mut [u8], kept: usize, byte: u8) -> usize {
+    if kept < space.len() {
+        space[kept] = byte;
+        return kept + 1;
+    }
+    space.len() + 1
+}
+
+// Takes up what was read: answers each line that ends in it.
+fn take_up(bytes: &[u8], before: Rehearsal, space: &mut [u8], counters: &mut [u32]) -> Rehearsal {
+    let mut site = before.site;
+    let mut kept = before.kept;
+    let mut i = 0;
+    while i < bytes.len() {
+        let byte = bytes[i];
+        if byte == b'\n' {
+            let next = answer_space(space, kept, site, counters);
+            site = next;
+            kept = 0;
+        } else {
+            kept = keep(space, kept, byte);
+        }
+        i += 1;
+    }
+    Rehearsal { site, kept }
+}
+
+// Answers each line of standard input that ends in a newline. Nothing says that an input ends, so the loop counts its reads down, from a number
+// that no run uses up.
+fn answer_input(site: Site, space: &mut [u8], counters: &mut [u32]) -> Rehearsal {
+    let mut bytes = [0u8; 1024];
+    let mut now = Rehearsal { site, kept: 0 };
+    let mut reads = u64::MAX;
+    while 0 < reads {
+        let got = libc::read(0, &mut bytes);
+        let n = io::count(got, &bytes);
+        if n == 0 {
+            break;
+        }
+        let next = take_up(&bytes[0..n], now, space, counters);
+        now = next;
+        reads -= 1;
+    }
+    now
+}
+
+// Starts a rehearsal of the site and answers all lines; the last may lack its newline.
+fn rehearse_site(site: Site) {
+    let mut counters = [0u32; 576];
+    let mut space = [0u8; 1000];
+    simulation::start(site, &mut counters);
+    let last = answer_input(site, &mut space, &mut counters);
+    answer_space(&space, last.kept, last.site, &mut counters);
+}
+
+fn rehearse_plan(bytes: &[u8]) {
+    let read = reader::read_plan(bytes);
+    let verdict = read.verdict;
+    match verdict {
+        Verdict::Accepted => {
+            report::print_counts(read.site);
+            rehearse_site(read.site);
+        }
+        Verdict::Refused(_, _) => print_verdict(verdict),
+    }
+}
+
+// No plan is longer than 763 bytes, so the first 1,024 of the file settle every answer: the law `read-first` of crate `reader`.
+fn main() {
+    if os::arg_count() != 2 {
+        print_error();
+        return;
+    }
+    let mut path = io::buffer();
+    let length = os::arg(1, &mut path);
+    let file = os::open_read(&path[..length]);
+    if file < 0 {
+        print_error();
+        return;
+    }
+    let mut bytes = [0u8; 1024];
+    let n = io::read_full(file, &mut bytes);
+    libc::close(file);
+    rehearse_plan(&bytes[..n]);
+}
