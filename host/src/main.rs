@@ -16,6 +16,7 @@ mod random_gaps;
 mod random_plans;
 mod random_sites;
 mod rules;
+mod slots;
 
 use std::path::Path;
 use std::process::ExitCode;

@@ -92,7 +92,7 @@ pub fn random_call(random: &mut Random, site: &Site) -> Call {
         },
         6..=7 => Call::Release {
             lent: random_lent(random),
-            number: random_number(random, &site.live_flows(), &numbers_not_live(site)),
+            number: random_number(random, &site.live_flows(), &site.numbers_not_live()),
         },
         _ => random_lookup(random, site),
     }
@@ -115,12 +115,6 @@ fn random_number(random: &mut Random, usual: &[usize], unusual: &[usize]) -> usi
         _ if !usual.is_empty() => random.pick(usual),
         _ => random.index(FLOW_NUMBERS),
     }
-}
-
-fn numbers_not_live(site: &Site) -> Vec<usize> {
-    (0..FLOW_NUMBERS)
-        .filter(|&flow| !site.is_live(flow))
-        .collect()
 }
 
 fn random_node(random: &mut Random, site: &Site) -> usize {
@@ -156,7 +150,7 @@ fn random_flow(random: &mut Random, site: &Site) -> Flow {
     let short = gaps - 1;
     let deadline = random.pick(&[gaps, gaps, gaps + 1, short, short, later, OF_16_BITS]);
     Flow {
-        number: random_number(random, &numbers_not_live(site), &site.live_flows()),
+        number: random_number(random, &site.numbers_not_live(), &site.live_flows()),
         entry,
         rate: rate.min(OF_8_BITS),
         deadline,
