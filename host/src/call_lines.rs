@@ -2,7 +2,7 @@
 
 use crate::calls::{admission, release, sender, COUNTERS};
 use crate::programs::{
-    alter, decimal, numbers, refused, site_of_hex, OF_16_BITS, OF_32_BITS, OF_8_BITS,
+    alter, decimal, numbers, refused, site_of_hex, verdict, OF_16_BITS, OF_32_BITS, OF_8_BITS,
 };
 use crate::rules::{Flow, Refusal, Site};
 
@@ -77,7 +77,7 @@ impl Desk {
     ) -> String {
         let (site, counters) = (self.site.clone(), self.counters.clone());
         let answer = call(&mut self.site, &mut self.counters[..lent as usize]);
-        let answer = answer.map_or_else(refused, |()| "accepted".to_string());
+        let answer = verdict(answer);
         let entries = decimal(&changed_entries(&site, &self.site).concat());
         let cells = decimal(&changed_counters(&counters, &self.counters).concat());
         format!("{answer} site{entries} counters{cells}\n")

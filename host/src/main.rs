@@ -15,8 +15,11 @@ mod random_calls;
 mod random_gaps;
 mod random_plans;
 mod random_sites;
+mod rehearsal;
+mod rehearse_lines;
 mod rules;
 mod slots;
+mod watch;
 
 use std::path::Path;
 use std::process::ExitCode;

@@ -1,6 +1,6 @@
 //! What each program prints for an input.
 
-use crate::bytes::{passes_check_14, read_plan, write_plan, write_schedule};
+use crate::bytes::{passes_check_14, read_plan, write_plan, write_schedule, written};
 use crate::call_lines::Desk;
 use crate::rules::{slot_rule, Refusal, Site};
 
@@ -19,9 +19,6 @@ pub const PROGRAMS: &[&str] = &[
 pub const OF_8_BITS: u64 = 255;
 pub const OF_16_BITS: u64 = 65_535;
 pub const OF_32_BITS: u64 = 4_294_967_295;
-
-/// A schedule of 63 links has 63 times 6 bytes and END.
-const LONGEST_SCHEDULE: usize = 379;
 
 /// The error is about an input outside the form that the program reads.
 pub fn output(program: &str, input: &[u8]) -> Result<String, String> {
@@ -64,7 +61,7 @@ pub fn slotplan(plan: &[u8]) -> String {
     }
 }
 
-fn links_and_flows(site: &Site) -> String {
+pub fn links_and_flows(site: &Site) -> String {
     let mut output = String::new();
     for node in site.nodes() {
         let parent = site.parents[node - 1];
@@ -86,6 +83,10 @@ fn links_and_flows(site: &Site) -> String {
 
 pub fn refused(refusal: Refusal) -> String {
     format!("refused {} {}", refusal.number, refusal.place)
+}
+
+pub fn verdict(answer: Result<(), Refusal>) -> String {
+    answer.map_or_else(refused, |()| "accepted".to_string())
 }
 
 fn length_or_refusal(answer: Result<usize, Refusal>) -> String {
@@ -124,11 +125,10 @@ fn vectors_line(line: &str) -> Result<String, String> {
     let mut again = vec![0; plan.len()];
     let plan_answer = length_or_refusal(write_plan(&site, &mut again));
     let equal = if again == plan { " equal" } else { "" };
-    let mut schedule = vec![0; LONGEST_SCHEDULE];
-    let answer = write_schedule(&site, &mut schedule);
-    schedule.truncate(answer.unwrap_or(0));
-    let (links, schedule_answer) = (site.links, length_or_refusal(answer));
-    let bytes = hex(&schedule);
+    let schedule = written(&site, write_schedule);
+    let bytes = hex(schedule.as_deref().unwrap_or_default());
+    let schedule_answer = length_or_refusal(schedule.map(|bytes| bytes.len()));
+    let links = site.links;
     Ok(format!(
         "accepted links {links} plan {plan_answer}{equal} schedule {schedule_answer}{bytes}\n"
     ))
