@@ -25,6 +25,10 @@ impl Desk {
         }
     }
 
+    pub fn site(&self) -> &Site {
+        &self.site
+    }
+
     pub fn line(&mut self, line: &str) -> Result<String, String> {
         let mut signs = line.chars();
         let (first, rest) = (signs.next(), signs.as_str());
