@@ -63,9 +63,10 @@ fn measured(site: &Site) -> [Calls; 3] {
 }
 
 /// Slots with rising numbers, in each of which every flow's rate arrives: with check 14, then without it.
-fn measured_slots(site: &Site) -> [Calls; 2] {
+fn measured_slots(site: &Site) -> Result<[Calls; 2], Refusal> {
     let arrivals: Arrivals = from_fn(|flow| site.rates[flow] as u16);
-    let (site, mut counters) = (FixedSite::from(site), [0; COUNTERS]);
+    let (site, mut counters) = (FixedSite::from(site), [1; COUNTERS]);
+    site.start(&mut counters)?;
     let [mut slots, mut without] = [(); 2].map(|()| Calls::default());
     for number in 0..ROUNDS {
         let arrivals = black_box(&arrivals);
@@ -75,7 +76,7 @@ fn measured_slots(site: &Site) -> [Calls; 2] {
         let (site, arrivals) = (black_box(&site), black_box(&arrivals));
         without.time(|| site.slot_after_check_14(black_box(&mut counters), arrivals, number));
     }
-    [slots, without]
+    Ok([slots, without])
 }
 
 fn count_accepted(kinds: &[Calls]) -> String {
@@ -85,7 +86,8 @@ fn count_accepted(kinds: &[Calls]) -> String {
 
 fn report(path: &str) -> Result<String, String> {
     let site = site_of_file(path)?;
-    let (kinds, slots) = (measured(&site), measured_slots(&site));
+    let kinds = measured(&site);
+    let slots = measured_slots(&site).map_err(refused)?;
     let (calls_accepted, slots_accepted) = (count_accepted(&kinds), count_accepted(&slots));
     let [release, lookup, admission] = kinds.map(|calls| calls.nanoseconds());
     let [slot, without] = slots.map(|calls| calls.nanoseconds());

@@ -155,7 +155,7 @@ fn random_lent(random: &mut Random) -> usize {
 }
 
 /// Mostly one of the usual numbers, if there are any.
-fn random_number(random: &mut Random, usual: &[usize], unusual: &[usize]) -> usize {
+pub fn random_number(random: &mut Random, usual: &[usize], unusual: &[usize]) -> usize {
     match random.between(0, 19) {
         0 => random.pick(&[FLOW_NUMBERS, FLOW_NUMBERS + 1, OF_8_BITS as usize]),
         1..=2 if !unusual.is_empty() => random.pick(unusual),
@@ -164,7 +164,7 @@ fn random_number(random: &mut Random, usual: &[usize], unusual: &[usize]) -> usi
     }
 }
 
-fn random_node(random: &mut Random, site: &Site) -> usize {
+pub fn random_node(random: &mut Random, site: &Site) -> usize {
     let links = site.links as usize;
     match random.between(0, 29) {
         0 => 0,
@@ -183,7 +183,7 @@ fn room(site: &Site, node: usize) -> u64 {
     rates.min().unwrap_or(0)
 }
 
-fn random_flow(random: &mut Random, site: &Site) -> Flow {
+pub fn random_flow(random: &mut Random, site: &Site) -> Flow {
     let entry = random_node(random, site);
     let (room, gaps) = if site.has_entry_node(entry) {
         (room(site, entry), site.wanted_gaps(entry))
@@ -211,7 +211,7 @@ fn sending_slot(random: &mut Random, site: &Site, link: usize) -> u64 {
     (any - any % period + offset).min(OF_32_BITS)
 }
 
-fn random_slot_number(random: &mut Random) -> u64 {
+pub fn random_slot_number(random: &mut Random) -> u64 {
     let any = random.between(0, OF_32_BITS);
     random.pick(&[any, any % 2048, OF_32_BITS])
 }
