@@ -3,138 +3,106 @@
 use crate::programs::Answered;
 use std::fmt;
 
-/// The lines of one call, and what their answers may begin with.
+/// The lines of one call, with what their answers begin with if they are no refusals, and the numbers that may refuse it.
 pub struct Call {
-    /// What its lines begin with. Every line begins with the empty word.
+    /// What its lines begin with: every line begins with the empty text.
     begins: &'static str,
     name: &'static str,
     answers: &'static [&'static str],
+    refusals: &'static [u64],
 }
 
-const fn call(begins: &'static str, name: &'static str, answers: &'static [&'static str]) -> Call {
+const fn call(
+    [begins, name]: [&'static str; 2],
+    answers: &'static [&'static str],
+    refusals: &'static [u64],
+) -> Call {
     Call {
         begins,
         name,
         answers,
+        refusals,
     }
 }
 
-const PLAN_OUTCOMES: &[&str] = &[
-    "accepted ",
-    "refused 2 ",
-    "refused 3 ",
-    "refused 4 ",
-    "refused 5 ",
-    "refused 6 ",
-    "refused 7 ",
-    "refused 8 ",
-    "refused 9 ",
-    "refused 10 ",
-    "refused 11 ",
-    "refused 12 ",
-    "refused 13 ",
-];
+const ACCEPTED: &[&str] = &["accepted"];
 
-pub const PLANS: &[Call] = &[call("", "", PLAN_OUTCOMES)];
-pub const SITES: &[Call] = &[call("", "", &["passes, ", "does not pass, "])];
-pub const GAP_LISTS: &[Call] = &[call(
-    "",
-    "",
-    &["base ", "refused 1 ", "refused 5 ", "refused 11 "],
+pub const PLANS: &[Call] = &[call(
+    ["", ""],
+    ACCEPTED,
+    &[2, 3, 4, 5, 6, 7, 8, 9, 10, 11, 12, 13],
 )];
+pub const SITES: &[Call] = &[call(["", ""], &["passes", "does not pass"], &[])];
+pub const GAP_LISTS: &[Call] = &[call(["", ""], &["base"], &[1, 5, 11])];
 
 /// The calls of test_calls.
 pub const CALLS: &[Call] = &[
-    call(
-        "A ",
-        "admission ",
-        &[
-            "accepted ",
-            "refused 1 ",
-            "refused 14 ",
-            "refused 5 ",
-            "refused 6 ",
-            "refused 15 ",
-            "refused 17 ",
-            "refused 18 ",
-        ],
-    ),
-    call(
-        "R ",
-        "release ",
-        &[
-            "accepted ",
-            "refused 1 ",
-            "refused 14 ",
-            "refused 5 ",
-            "refused 16 ",
-        ],
-    ),
-    call("L ", "lookup ", &["sender ", "refused 14 ", "refused 6 "]),
-    call("T ", "start ", &["accepted ", "refused 1 ", "refused 14 "]),
-    call(
-        "S ",
-        "slot ",
-        &[
-            "accepted ",
-            "refused 1 ",
-            "refused 14 ",
-            "refused 19 ",
-            "refused 20 ",
-        ],
-    ),
+    call(["A", "admission "], ACCEPTED, &[1, 14, 5, 6, 15, 17, 18]),
+    call(["R", "release "], ACCEPTED, &[1, 14, 5, 16]),
+    call(["L", "lookup "], &["sender"], &[14, 6]),
+    call(["T", "start "], ACCEPTED, &[1, 14]),
+    call(["S", "slot "], ACCEPTED, &[1, 14, 19, 20]),
 ];
 
 /// The calls of rehearse. Its site passes check 14, and it lends lists of the right lengths.
 pub const SESSIONS: &[Call] = &[
-    call("start", "start ", &["accepted"]),
-    call("slot ", "slot ", &["accepted", "refused 20 "]),
-    call(
-        "admit ",
-        "admit ",
-        &[
-            "accepted",
-            "refused 5 ",
-            "refused 6 ",
-            "refused 15 ",
-            "refused 17 ",
-            "refused 18 ",
-        ],
-    ),
-    call(
-        "release ",
-        "release ",
-        &["accepted", "refused 5 ", "refused 16 "],
-    ),
-    call("sender ", "lookup ", &["sender ", "refused 6 "]),
-    call("cells ", "", &["cells "]),
-    call("bound ", "", &["bound ", "not live"]),
-    call("plan", "plan beginning ", &["01 "]),
-    call("schedule", "schedule beginning ", &["11 "]),
-    call("show", "show beginning ", &["link "]),
-    call("", "", &["error"]),
+    call(["start", "start "], ACCEPTED, &[]),
+    call(["slot", "slot "], ACCEPTED, &[20]),
+    call(["admit", "admission "], ACCEPTED, &[5, 6, 15, 17, 18]),
+    call(["release", "release "], ACCEPTED, &[5, 16]),
+    call(["sender", "lookup "], &["sender"], &[6]),
+    call(["cells", ""], &["cells"], &[]),
+    call(["bound", ""], &["bound", "not live"], &[]),
+    call(["plan", "plan beginning "], &["01"], &[]),
+    call(["schedule", "schedule beginning "], &["11"], &[]),
+    call(["show", "show beginning "], &["link"], &[]),
+    call(["", ""], &["error"], &[]),
 ];
+
+struct Outcome {
+    line_begins: &'static str,
+    answer_begins: String,
+    shown: String,
+    count: u64,
+}
+
+impl Call {
+    fn outcomes(&self) -> Vec<Outcome> {
+        let outcome = |answer_begins: String, shown: String| Outcome {
+            line_begins: self.begins,
+            answer_begins,
+            shown: format!("{}{shown}", self.name),
+            count: 0,
+        };
+        let answers = self.answers.iter();
+        let answers = answers.map(|&answer| outcome(answer.to_string(), answer.to_string()));
+        let refusals = self.refusals.iter();
+        let refusals =
+            refusals.map(|number| outcome(format!("refused {number} "), number.to_string()));
+        answers.chain(refusals).collect()
+    }
+}
 
 /// How often each outcome was met.
 pub struct Tally {
     heading: &'static str,
-    counts: Vec<(&'static Call, &'static str, u64)>,
+    outcomes: Vec<Outcome>,
 }
 
 impl Tally {
-    pub fn new(heading: &'static str, calls: &'static [Call]) -> Tally {
-        let outcomes =
-            |call: &'static Call| call.answers.iter().map(move |&answer| (call, answer, 0));
+    pub fn new(heading: &'static str, calls: &[Call]) -> Tally {
         Tally {
             heading,
-            counts: calls.iter().flat_map(outcomes).collect(),
+            outcomes: calls.iter().flat_map(Call::outcomes).collect(),
         }
     }
 
     pub fn count(&mut self, line: &Answered) {
-        for (call, answer, count) in &mut self.counts {
-            if line.line.starts_with(call.begins) && line.answer.starts_with(*answer) {
-                *count += 1;
+        for outcome in &mut self.outcomes {
+            if line.line.starts_with(outcome.line_begins)
+                && line.answer.starts_with(&outcome.answer_begins)
+            {
+                outcome.count += 1;
             }
         }
     }
@@ -142,21 +110,15 @@ impl Tally {
     /// Whether each outcome was met this often.
     #[cfg(test)]
     pub fn all_reach(&self, least: u64) -> bool {
-        self.counts.iter().all(|(_, _, count)| *count >= least)
+        self.outcomes.iter().all(|outcome| outcome.count >= least)
     }
-}
-
-fn outcome_line((call, answer, count): &(&'static Call, &'static str, u64)) -> String {
-    let outcome = answer.trim_start_matches("refused ");
-    let outcome = outcome.trim_end_matches([' ', ',']);
-    format!("{}{outcome}: {count}\n", call.name)
 }
 
 impl fmt::Display for Tally {
     fn fmt(&self, form: &mut fmt::Formatter) -> fmt::Result {
         writeln!(form, "{}:", self.heading)?;
-        self.counts
+        self.outcomes
             .iter()
-            .try_for_each(|outcome| form.write_str(&outcome_line(outcome)))
+            .try_for_each(|outcome| writeln!(form, "{}: {}", outcome.shown, outcome.count))
     }
 }

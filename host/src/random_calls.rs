@@ -317,3 +317,52 @@ fn random_queues(random: &mut Random, site: &Site, flow: usize) -> Vec<u32> {
         })
         .collect()
 }
+
+#[cfg(test)]
+mod tests {
+    use super::*;
+    use crate::rules::refuse;
+    use crate::slots::slot;
+
+    /// The largest sum of nine cells and arrival among the live flows.
+    fn largest_sum(site: &Site, counters: &[u32], arrivals: &[u16]) -> u64 {
+        let cells = |flow: usize| counters[flow * CELLS..][..CELLS].iter();
+        let sum = |flow| cells(flow).map(|&cell| u64::from(cell)).sum::<u64>();
+        let sums = site.live_flows().into_iter();
+        let sums = sums.map(|flow| sum(flow) + u64::from(arrivals[flow]));
+        sums.max().unwrap_or(0)
+    }
+
+    /// Sums at the limit and one above it, and numbers not live below a number that 19 names.
+    #[test]
+    fn random_slots_are_near_the_border_of_19() {
+        let mut random = Random::from_seed(12);
+        let [mut at_limit, mut above, mut with_20] = [0; 3];
+        for _ in 0..4000 {
+            let (_, site) = site_to_alter(&mut random);
+            let arrivals = random_arrivals(&mut random, &site);
+            let mut counters = [1; COUNTERS];
+            for (index, value) in random_counters(&mut random, &site, &arrivals) {
+                counters[index] = value;
+            }
+            if arrivals.len() != FLOW_NUMBERS {
+                continue;
+            }
+            let sum = largest_sum(&site, &counters, &arrivals);
+            let mut not_live = site.numbers_not_live().into_iter();
+            let first_of_20 = not_live.find(|&flow| arrivals[flow] > 0);
+            match slot(&site, &mut counters, &arrivals, 0) {
+                Ok(()) => at_limit += u64::from(sum == OF_32_BITS),
+                Err(refusal) if refusal.number == 19 => {
+                    above += u64::from(sum == OF_32_BITS + 1);
+                    with_20 += u64::from(first_of_20.is_some_and(|flow| flow < refusal.place));
+                }
+                answer => assert_eq!(answer, refuse(20, first_of_20.unwrap_or_default())),
+            }
+        }
+        assert!(
+            at_limit >= 30 && above >= 30 && with_20 >= 5,
+            "{at_limit} {above} {with_20}"
+        );
+    }
+}

@@ -208,59 +208,21 @@ mod tests {
         assert_eq!(on_p(&input), expected);
     }
 
+    /// One line of these to each that is no call.
+    const NO_CALLS: &str = " # start\nstarts\nStart\nstart 0\nstart\t\n\tstart\nstart\r\nslot\nslot x\n\
+        slot -1\nslot +1\nslot 4294967296\nslot 99999999999999999999\nslot 0 0\nslot 0 0=\nslot 0 =1\n\
+        slot 0 0=1=1\nslot 0 0 = 1\nslot 0 0=65536\nslot 0 64=1\nslot 0 0=1 0=1\nslot 0 0=0 00=0\n\
+        slot 0 0=1 1=x\nadmit 5 2 3\nadmit 5 2 3 6 7\nadmit 256 2 3 6\nadmit 5 256 3 6\n\
+        admit 5 2 256 6\nadmit 5 2 3 65536\nrelease\nrelease 256\nrelease 0 0\nsender 0\n\
+        sender 256 0\nsender 0 4294967296\ncells\ncells 64\ncells 0 0\nbound\nbound 64\n\
+        bound 0 0\nplan 1\nschedule 1\nshow 1\n0\n\u{b2}";
+
     #[test]
     fn anything_else_is_an_error_and_changes_nothing() {
-        let lines = [
-            " # start",
-            "starts",
-            "Start",
-            "start 0",
-            "start\t",
-            "\tstart",
-            "start\r",
-            "slot",
-            "slot x",
-            "slot -1",
-            "slot +1",
-            "slot 4294967296",
-            "slot 99999999999999999999",
-            "slot 0 0",
-            "slot 0 0=",
-            "slot 0 =1",
-            "slot 0 0=1=1",
-            "slot 0 0 = 1",
-            "slot 0 0=65536",
-            "slot 0 64=1",
-            "slot 0 0=1 0=1",
-            "slot 0 0=0 00=0",
-            "slot 0 0=1 1=x",
-            "admit 5 2 3",
-            "admit 5 2 3 6 7",
-            "admit 256 2 3 6",
-            "admit 5 256 3 6",
-            "admit 5 2 256 6",
-            "admit 5 2 3 65536",
-            "release",
-            "release 256",
-            "release 0 0",
-            "sender 0",
-            "sender 256 0",
-            "sender 0 4294967296",
-            "cells",
-            "cells 64",
-            "cells 0 0",
-            "bound",
-            "bound 64",
-            "plan 1",
-            "schedule 1",
-            "show 1",
-            "0",
-            "\u{b2}",
-        ];
-        for line in lines {
-            let output = on_p(&format!("{line}\ncells 0\nplan\n"));
-            let before = on_p("cells 0\nplan\n");
-            assert_eq!(output, format!("error\n{before}"), "{line}");
+        let after = "cells 0\nplan\n";
+        for line in NO_CALLS.split('\n') {
+            let expected = format!("error\n{}", on_p(after));
+            assert_eq!(on_p(&format!("{line}\n{after}")), expected, "{line}");
         }
     }
 

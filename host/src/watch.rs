@@ -141,11 +141,15 @@ impl Watched {
         (waiting > self.rate * self.bound).then_some(Fault::TooManyWait)
     }
 
+    /// Judges the counts. Packets are numbered as they arrive, so the delivered count says which have left.
     fn after_call(&mut self, packets: &FlowPackets) -> Vec<Fault> {
         self.waiting = packets.count_waiting();
         let mut faults = Vec::from_iter(self.count_waiting(self.waiting));
         if self.arrived != self.waiting + packets.delivered() {
             faults.push(Fault::Miscounted);
+        }
+        if packets.delivered() < self.due {
+            faults.push(Fault::DeliveredTooFew);
         }
         faults
     }
@@ -184,7 +188,7 @@ impl Watched {
         faults
     }
 
-    /// Judges the packets that stay, by what each carries, and the delivered count, by the packets' numbers.
+    /// Judges the packets that stay, by the slot of arrival that each carries.
     fn remaining(&self, number: u32, packets: &FlowPackets) -> Vec<Fault> {
         let mut faults = Vec::new();
         for batch in packets.waiting() {
@@ -193,9 +197,6 @@ impl Watched {
                 Some(slots) if slots >= self.bound => faults.push(Fault::PacketLate),
                 Some(_) => {}
             }
-        }
-        if packets.delivered() < self.due {
-            faults.push(Fault::DeliveredTooFew);
         }
         faults
     }
