@@ -432,6 +432,17 @@ mod tests {
         assert_eq!(watch.objections, []);
     }
 
+    /// 21 of these may wait.
+    #[test]
+    fn one_packet_too_many_is_objected_to() {
+        let silent = on_altered_site(|site, _| site.offsets.fill(2000));
+        for (count, found) in [(0, vec![]), (1, vec![7])] {
+            let slots = [at_rate(0..7), vec![(7, count)]].concat();
+            let watch = watched(slots, &silent);
+            assert_eq!(slots_with(&watch, Fault::TooManyWait), found);
+        }
+    }
+
     /// Link 1 moves 9 in the place of 12, so that 24 wait in slot 16.
     #[test]
     fn a_slot_that_lets_too_many_wait_is_objected_to() {
