@@ -24,7 +24,7 @@ pub struct Session {
 }
 
 impl Session {
-    /// The last line has no newline.
+    /// The last line has no newline, but it may be empty.
     pub fn input(&self) -> String {
         let lines: Vec<&str> = self.lines.iter().map(|line| line.line.as_str()).collect();
         lines.join("\n")
@@ -99,8 +99,18 @@ fn random_session(random: &mut Random) -> Session {
         session.record = script.rehearsal.watch.close();
         session.objection = script.rehearsal.watch.objections.first().copied();
         session.lines = script.lines;
+    } else {
+        session.lines.push(unanswered("start"));
     }
     session
+}
+
+/// rehearse ends after a refused plan.
+fn unanswered(line: &str) -> Answered {
+    Answered {
+        line: line.to_string(),
+        answer: String::new(),
+    }
 }
 
 /// Mostly a plan with a flow whose bound is short enough to be met in a session; a few that are refused.
@@ -179,6 +189,9 @@ impl Script<'_> {
         }
         for flow in self.site().live_flows().into_iter().take(4) {
             self.add(format!("cells {flow}"));
+        }
+        if self.random.chance(50) {
+            self.add(String::new());
         }
     }
 

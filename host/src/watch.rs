@@ -130,7 +130,7 @@ impl Watched {
         }
     }
 
-    /// 00, demand 3: at most the rate, and numbers that rise by one without wrapping.
+    /// The premises of demand 3: at most the rate, and numbers that rise by one without wrapping.
     fn allows(&self, number: u32, arrivals: u64) -> bool {
         let follows = |last: u32| last.checked_add(1) == Some(number);
         arrivals <= self.rate && self.last.is_none_or(follows)
