@@ -279,7 +279,8 @@ impl Script<'_> {
             6..=8 => format!("bound {flow}"),
             9..=12 => {
                 let node = random_node(self.random, site);
-                let parent = self.random.pick(&[0, node]);
+                let above_the_links = site.links as usize + 1;
+                let parent = self.random.pick(&[0, 0, node, node, node, above_the_links]);
                 format!("sender {parent} {}", random_slot_number(self.random))
             }
             13 => "plan".to_string(),
@@ -355,7 +356,7 @@ mod tests {
             assert_eq!(sessions.add(&mut random).err(), None);
         }
         let (tally, record) = (sessions.tally, sessions.record);
-        assert!(tally.all_reach(5), "{tally}");
+        assert!(tally.all_reach(10), "{tally}");
         assert!(record.flows_at_bound >= 100, "{record}");
         assert!(record.flows_full >= 100, "{record}");
         assert!(record.broken >= 100, "{record}");
