@@ -1,13 +1,15 @@
 //! Plan bytes read and written, the schedule written, and check 14.
 
-use crate::rules::{refuse, Flow, Refusal, Site, CAPACITIES, GAPS, MOST_DEPTH, MOST_LINKS};
+use crate::rules::{
+    refuse, Flow, Refusal, Site, CAPACITIES, FLOW_NUMBERS, GAPS, MOST_DEPTH, MOST_LINKS,
+};
 
 pub const NODE: u8 = 0x01;
 pub const FLOW: u8 = 0x02;
 pub const LINK: u8 = 0x11;
 pub const END: u8 = 0xFF;
 
-/// NODE and FLOW both have five bytes of operands.
+/// NODE, FLOW and LINK each have five bytes of operands.
 pub const COMMAND_LENGTH: usize = 6;
 
 /// 01: for a command 3 comes before 2, and the end of the bytes is a missing END.
@@ -180,6 +182,19 @@ pub fn write_plan(site: &Site, slice: &mut [u8]) -> Result<usize, Refusal> {
 /// The number of bytes written, the rest of the slice unchanged.
 pub fn write_schedule(site: &Site, slice: &mut [u8]) -> Result<usize, Refusal> {
     fill(slice, site, schedule_bytes)
+}
+
+pub type Writer = fn(&Site, &mut [u8]) -> Result<usize, Refusal>;
+
+/// The longest bytes are those of a plan with all links and all flows.
+const LONGEST_BYTES: usize = COMMAND_LENGTH * (MOST_LINKS + FLOW_NUMBERS) + 1;
+
+/// The bytes that a writer writes where there is room for all.
+pub fn written(site: &Site, writer: Writer) -> Result<Vec<u8>, Refusal> {
+    let mut bytes = vec![0; LONGEST_BYTES];
+    let length = writer(site, &mut bytes)?;
+    bytes.truncate(length);
+    Ok(bytes)
 }
 
 /// Plan P of 01, with this capacity on link 3 and this deadline.

@@ -2,12 +2,14 @@
 
 use crate::calls::{admission, release, sender, COUNTERS};
 use crate::programs::{
-    alter, decimal, numbers, refused, site_of_hex, OF_16_BITS, OF_32_BITS, OF_8_BITS,
+    alter, decimal, numbers, refused, site_of_hex, verdict, OF_16_BITS, OF_32_BITS, OF_8_BITS,
 };
-use crate::rules::{Flow, Refusal, Site};
+use crate::rules::{Flow, Refusal, Site, FLOW_NUMBERS};
+use crate::slots::{slot, start};
 
 /// One more than has to be lent, so that a list too long by one can be lent too.
 const MOST_COUNTERS: u64 = COUNTERS as u64 + 1;
+const MOST_ARRIVALS: u64 = FLOW_NUMBERS as u64 + 1;
 
 /// What lasts from line to line.
 pub struct Desk {
@@ -23,6 +25,10 @@ impl Desk {
         }
     }
 
+    pub fn site(&self) -> &Site {
+        &self.site
+    }
+
     pub fn line(&mut self, line: &str) -> Result<String, String> {
         let mut signs = line.chars();
         let (first, rest) = (signs.next(), signs.as_str());
@@ -34,6 +40,9 @@ impl Desk {
             Some('A') => return self.admission(rest),
             Some('R') => return self.release(rest),
             Some('L') => return self.lookup(rest),
+            Some('K') => self.set_counter(first_numbers(rest)?),
+            Some('T') => return Ok(self.start(first_numbers(rest)?)),
+            Some('S') => return self.slot(rest),
             _ => return Err("no call".to_string()),
         }
         Ok(String::new())
@@ -69,18 +78,60 @@ impl Desk {
         Ok(self.change(lent, |site, counters| release(site, counters, number)))
     }
 
-    /// The answer, and every entry and counter that is not what it was before the call.
+    /// The answer, and every counter that is not what it was before the call.
+    fn on_counters(
+        &mut self,
+        lent: u64,
+        call: impl FnOnce(&mut Site, &mut [u32]) -> Result<(), Refusal>,
+    ) -> [String; 2] {
+        let before = self.counters.clone();
+        let answer = call(&mut self.site, &mut self.counters[..lent as usize]);
+        let cells = decimal(&changed_counters(&before, &self.counters).concat());
+        [verdict(answer), format!("counters{cells}\n")]
+    }
+
+    /// As `on_counters`, with every entry of the site that is not what it was.
     fn change(
         &mut self,
         lent: u64,
         call: impl FnOnce(&mut Site, &mut [u32]) -> Result<(), Refusal>,
     ) -> String {
-        let (site, counters) = (self.site.clone(), self.counters.clone());
-        let answer = call(&mut self.site, &mut self.counters[..lent as usize]);
-        let answer = answer.map_or_else(refused, |()| "accepted".to_string());
-        let entries = decimal(&changed_entries(&site, &self.site).concat());
-        let cells = decimal(&changed_counters(&counters, &self.counters).concat());
-        format!("{answer} site{entries} counters{cells}\n")
+        let before = self.site.clone();
+        let [answer, counters] = self.on_counters(lent, call);
+        let entries = decimal(&changed_entries(&before, &self.site).concat());
+        format!("{answer} site{entries} {counters}")
+    }
+
+    /// An index that no counter has changes nothing.
+    fn set_counter(&mut self, [index, value]: [u64; 2]) {
+        if let Some(counter) = self.counters.get_mut(index as usize) {
+            *counter = value as u32;
+        }
+    }
+
+    fn start(&mut self, [lent]: [u64; 1]) -> String {
+        if lent > MOST_COUNTERS {
+            return String::new();
+        }
+        let call = |site: &mut Site, counters: &mut [u32]| start(site, counters);
+        self.on_counters(lent, call).join(" ")
+    }
+
+    fn slot(&mut self, rest: &str) -> Result<String, String> {
+        let [lent, lent_arrivals, number] = first_numbers(rest)?;
+        if lent > MOST_COUNTERS || lent_arrivals > MOST_ARRIVALS {
+            return Ok(String::new());
+        }
+        let mut arrivals = [0; MOST_ARRIVALS as usize];
+        for pair in digits(rest)[3..].chunks_exact(2) {
+            if let Some(arrival) = arrivals.get_mut(pair[0] as usize) {
+                *arrival = pair[1] as u16;
+            }
+        }
+        let arrivals = &arrivals[..lent_arrivals as usize];
+        let call =
+            |site: &mut Site, counters: &mut [u32]| slot(site, counters, arrivals, number as u32);
+        Ok(self.on_counters(lent, call).join(" "))
     }
 
     fn lookup(&self, rest: &str) -> Result<String, String> {
@@ -104,6 +155,24 @@ fn operands<const N: usize>(text: &str, most: [u64; N]) -> Result<[u64; N], Stri
         return Err("an operand too large".to_string());
     }
     Ok(numbers)
+}
+
+/// The numbers of a line whatever stands between them, each of its first ten digits after the leading zeros.
+fn digits(text: &str) -> Vec<u64> {
+    let runs = text.split(|sign: char| !sign.is_ascii_digit());
+    let number = |run: &str| {
+        let run = run.trim_start_matches('0');
+        let read = format!("0{}", &run[..run.len().min(10)]);
+        read.parse().expect("ten digits are a number of 64 bits")
+    };
+    runs.filter(|run| !run.is_empty()).map(number).collect()
+}
+
+/// The first numbers of a line, of which none may be missing.
+fn first_numbers<const N: usize>(text: &str) -> Result<[u64; N], String> {
+    let numbers = digits(text);
+    let first = numbers.first_chunk().ok_or(format!("not {N} operands"))?;
+    Ok(*first)
 }
 
 /// Every entry as field, index and value, by the numbers that test_altered uses, fields rising, then indexes.

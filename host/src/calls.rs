@@ -8,7 +8,7 @@ pub const CELLS: usize = 9;
 pub const COUNTERS: usize = CELLS * FLOW_NUMBERS;
 
 /// 01: 1 comes before 14.
-fn check_lent(site: &Site, counters: &[u32]) -> Result<(), Refusal> {
+pub fn check_lent(site: &Site, counters: &[u32]) -> Result<(), Refusal> {
     if counters.len() != COUNTERS {
         return refuse(1, 0);
     }
@@ -65,7 +65,7 @@ pub fn sender(site: &Site, parent: usize, slot: u64) -> Result<usize, Refusal> {
         return refuse(6, 0);
     }
     let mut children = site.children(parent).into_iter();
-    let sending = children.find(|node| slot % site.periods[node - 1] == site.offsets[node - 1]);
+    let sending = children.find(|&node| site.sends(node, slot));
     Ok(sending.unwrap_or(0))
 }
 

@@ -2,11 +2,14 @@
 
 use crate::damage::random_plan;
 use crate::lines::first_difference;
-use crate::programs::{hex, output, slotplan};
+use crate::outcomes::{Tally, CALLS, GAP_LISTS, PLANS, SITES};
+use crate::programs::{self, answered_lines, hex, slotplan, REHEARSE};
 use crate::random::Random;
 use crate::random_calls::call_lines;
 use crate::random_gaps::deals_line;
+use crate::random_sessions::Sessions;
 use crate::random_sites::altered_lines;
+use std::fs;
 use std::io::Write;
 use std::path::{Path, PathBuf};
 use std::process::{Command, Stdio};
@@ -14,36 +17,6 @@ use std::thread;
 
 /// The programs that read lines hold 65,536 bytes of text.
 const MOST_TEXT: usize = 65_000;
-
-const PLAN_OUTCOMES: [&str; 13] = [
-    "accepted ",
-    "refused 2 ",
-    "refused 3 ",
-    "refused 4 ",
-    "refused 5 ",
-    "refused 6 ",
-    "refused 7 ",
-    "refused 8 ",
-    "refused 9 ",
-    "refused 10 ",
-    "refused 11 ",
-    "refused 12 ",
-    "refused 13 ",
-];
-const SITE_OUTCOMES: [&str; 2] = ["passes, ", "does not pass, "];
-const GAP_OUTCOMES: [&str; 4] = ["base ", "refused 1 ", "refused 5 ", "refused 11 "];
-const CALL_OUTCOMES: [&str; 10] = [
-    "accepted ",
-    "refused 1 ",
-    "refused 14 ",
-    "refused 5 ",
-    "refused 6 ",
-    "refused 15 ",
-    "refused 16 ",
-    "refused 17 ",
-    "refused 18 ",
-    "sender ",
-];
 
 /// Input of one or more lines, and what the program has to print for it.
 struct Case {
@@ -54,26 +27,18 @@ struct Case {
 /// A program that reads lines, and the cases collected for its next run.
 struct Feed {
     name: &'static str,
-    heading: &'static str,
     program: PathBuf,
     cases: Vec<Case>,
-    /// How many expected lines begin with each of these words.
-    counts: Vec<(&'static str, u64)>,
+    tally: Tally,
 }
 
 impl Feed {
-    fn new(
-        name: &'static str,
-        heading: &'static str,
-        folder: &Path,
-        outcomes: &[&'static str],
-    ) -> Feed {
+    fn new(name: &'static str, folder: &Path, tally: Tally) -> Feed {
         Feed {
             name,
-            heading,
             program: folder.join(name),
             cases: Vec::new(),
-            counts: outcomes.iter().map(|&outcome| (outcome, 0)).collect(),
+            tally,
         }
     }
 
@@ -82,40 +47,24 @@ impl Feed {
         if waiting + input.len() > MOST_TEXT {
             self.run()?;
         }
-        let expected = output(self.name, input.as_bytes())?;
-        for line in expected.lines() {
-            self.count(line);
-        }
+        let lines = answered_lines(self.name, input.as_bytes())?;
+        lines.iter().for_each(|line| self.tally.count(line));
+        let expected = programs::printed(&lines);
         self.cases.push(Case { input, expected });
         Ok(())
-    }
-
-    fn count(&mut self, line: &str) {
-        for (outcome, count) in &mut self.counts {
-            if line.starts_with(*outcome) {
-                *count += 1;
-            }
-        }
     }
 
     fn run(&mut self) -> Result<(), String> {
         let cases = std::mem::take(&mut self.cases);
         let text = inputs(&cases);
-        compare(&self.program, text.as_bytes(), &cases)
-    }
-
-    fn print_counts(&self) {
-        println!("{}:", self.heading);
-        for (outcome, count) in &self.counts {
-            let name = outcome.trim_start_matches("refused ");
-            println!("{}: {count}", name.trim_end_matches([' ', ',']));
-        }
+        compare(&self.program, &[], text.as_bytes(), &cases)
     }
 }
 
 /// The printed text of a program. One that is ended by a signal has given no answer.
-fn printed(program: &Path, input: &[u8]) -> Result<String, String> {
+fn printed(program: &Path, arguments: &[&Path], input: &[u8]) -> Result<String, String> {
     let mut child = Command::new(program)
+        .args(arguments)
         .stdin(Stdio::piped())
         .stdout(Stdio::piped())
         .spawn()
@@ -133,10 +82,16 @@ fn printed(program: &Path, input: &[u8]) -> Result<String, String> {
     Ok(String::from_utf8_lossy(&output.stdout).into_owned())
 }
 
-fn compare(program: &Path, input: &[u8], cases: &[Case]) -> Result<(), String> {
+fn compare(
+    program: &Path,
+    arguments: &[&Path],
+    input: &[u8],
+    cases: &[Case],
+) -> Result<(), String> {
     let name = program.display();
     let with_input = |what: String, input: &str| format!("{name}: {what}\ninput:\n{input}");
-    let output = printed(program, input).map_err(|error| with_input(error, &inputs(cases)))?;
+    let output = printed(program, arguments, input);
+    let output = output.map_err(|error| with_input(error, &inputs(cases)))?;
     let mut rest = output.as_str();
     for case in cases {
         let lines = case.expected.matches('\n').count();
@@ -170,7 +125,61 @@ fn compare_slotplan(program: &Path, plan: &[u8]) -> Result<(), String> {
         input: format!("{}\n", hex(plan).trim_start()),
         expected: slotplan(plan),
     };
-    compare(program, plan, &[case])
+    compare(program, &[], plan, &[case])
+}
+
+/// rehearse, which reads its plan from a file, so it is run for each session.
+struct Rehearse {
+    program: PathBuf,
+    plan: PathBuf,
+    sessions: Sessions,
+}
+
+impl Rehearse {
+    fn new(folder: &Path) -> Rehearse {
+        let plan = format!("host_random_plan_{}", std::process::id());
+        Rehearse {
+            program: folder.join(REHEARSE),
+            plan: std::env::temp_dir().join(plan),
+            sessions: Sessions::new(),
+        }
+    }
+
+    /// As long as the file of the plan is not written, there is none.
+    fn compare_without_plan(&self) -> Result<(), String> {
+        let case = Case {
+            input: "start\n".to_string(),
+            expected: "error\n".to_string(),
+        };
+        let arguments: [&[&Path]; 2] = [&[], &[&self.plan]];
+        for arguments in arguments {
+            compare(
+                &self.program,
+                arguments,
+                b"start\n",
+                std::slice::from_ref(&case),
+            )?;
+        }
+        Ok(())
+    }
+
+    fn compare(&mut self, random: &mut Random) -> Result<(), String> {
+        let session = self.sessions.add(random)?;
+        fs::write(&self.plan, &session.plan).map_err(|error| error.to_string())?;
+        let case = Case {
+            input: session.shown(),
+            expected: session.expected(),
+        };
+        let input = session.input();
+        compare(&self.program, &[&self.plan], input.as_bytes(), &[case])
+    }
+}
+
+impl Drop for Rehearse {
+    /// The file is missing if no session was compared, and then there is nothing to remove.
+    fn drop(&mut self) {
+        let _ = fs::remove_file(&self.plan);
+    }
 }
 
 struct Comparison {
@@ -179,16 +188,19 @@ struct Comparison {
     altered: Feed,
     deals: Feed,
     calls: Feed,
+    rehearse: Rehearse,
 }
 
 impl Comparison {
     fn new(folder: &Path) -> Comparison {
+        let feed = |name, heading, calls| Feed::new(name, folder, Tally::new(heading, calls));
         Comparison {
             slotplan: folder.join("slotplan"),
-            vectors: Feed::new("test_vectors", "plans", folder, &PLAN_OUTCOMES),
-            altered: Feed::new("test_altered", "altered sites", folder, &SITE_OUTCOMES),
-            deals: Feed::new("test_deals", "gap lists", folder, &GAP_OUTCOMES),
-            calls: Feed::new("test_calls", "calls", folder, &CALL_OUTCOMES),
+            vectors: feed("test_vectors", "plans", PLANS),
+            altered: feed("test_altered", "altered sites", SITES),
+            deals: feed("test_deals", "gap lists", GAP_LISTS),
+            calls: feed("test_calls", "calls", CALLS),
+            rehearse: Rehearse::new(folder),
         }
     }
 
@@ -198,11 +210,13 @@ impl Comparison {
 
     fn missing(&self) -> Vec<&Path> {
         let programs = self.feeds().map(|feed| feed.program.as_path());
-        let all = std::iter::once(self.slotplan.as_path()).chain(programs);
+        let others = [self.slotplan.as_path(), self.rehearse.program.as_path()];
+        let all = others.into_iter().chain(programs);
         all.filter(|program| !program.is_file()).collect()
     }
 
     fn run(&mut self, count: u64, random: &mut Random) -> Result<(), String> {
+        self.rehearse.compare_without_plan()?;
         for _ in 0..count {
             let plan = random_plan(random);
             self.vectors.add(format!("{}\n", hex(&plan).trim_start()))?;
@@ -210,6 +224,7 @@ impl Comparison {
             self.altered.add(altered_lines(random))?;
             self.deals.add(deals_line(random))?;
             self.calls.add(call_lines(random))?;
+            self.rehearse.compare(random)?;
         }
         self.vectors.run()?;
         self.altered.run()?;
@@ -219,7 +234,22 @@ impl Comparison {
 
     fn print_counts(&self) {
         for feed in self.feeds() {
-            feed.print_counts();
+            print!("{}", feed.tally);
+        }
+        print!("{}", self.rehearse.sessions);
+    }
+}
+
+/// Prints the result, the last line of a command. The exit status: 0 without a difference, 1 with one.
+fn status_of(result: Result<(), String>, without: &str) -> u8 {
+    match result {
+        Ok(()) => {
+            println!("{without}");
+            0
+        }
+        Err(difference) => {
+            println!("{difference}");
+            1
         }
     }
 }
@@ -238,45 +268,49 @@ pub fn compare_random(count: u64, seed: u64, folder: &Path) -> u8 {
     let result = comparison.run(count, &mut Random::from_seed(seed));
     comparison.print_counts();
     println!("seed {seed}, {count} random plans");
-    match result {
-        Ok(()) => println!("no difference"),
-        Err(difference) => {
-            println!("{difference}");
-            return 1;
-        }
-    }
-    0
+    status_of(result, "no difference")
+}
+
+/// Random sessions of this implementation alone. The exit status: 0, or 1 if the watch objects.
+pub fn watch_random(count: u64, seed: u64) -> u8 {
+    let (mut sessions, mut random) = (Sessions::new(), Random::from_seed(seed));
+    let result = (0..count).try_for_each(|_| sessions.add(&mut random).map(drop));
+    print!("{sessions}");
+    println!("seed {seed}, {count} random sessions");
+    status_of(result, "no objection")
 }
 
 #[cfg(test)]
 mod tests {
     use super::*;
     use crate::bytes::read_plan;
+    use crate::programs::Answered;
 
     #[test]
     fn random_plans_meet_every_outcome() {
         let mut random = Random::from_seed(3);
-        let mut vectors = Feed::new("test_vectors", "", Path::new(""), &PLAN_OUTCOMES);
+        let mut tally = Tally::new("", PLANS);
         for _ in 0..3000 {
-            let expected = slotplan(&random_plan(&mut random));
-            vectors.count(expected.lines().last().unwrap());
+            let output = slotplan(&random_plan(&mut random));
+            let answer = output.lines().last().unwrap_or_default().to_string();
+            tally.count(&Answered {
+                line: String::new(),
+                answer,
+            });
         }
-        for (outcome, count) in vectors.counts {
-            assert!(count >= 3, "{outcome}{count}");
-        }
+        assert!(tally.all_reach(3), "{tally}");
     }
 
     #[test]
     fn random_calls_meet_every_outcome() {
         let mut random = Random::from_seed(5);
-        let mut calls = Feed::new("test_calls", "", Path::new(""), &CALL_OUTCOMES);
-        for _ in 0..300 {
-            let expected = output(calls.name, call_lines(&mut random).as_bytes()).unwrap();
-            expected.lines().for_each(|line| calls.count(line));
+        let mut tally = Tally::new("", CALLS);
+        for _ in 0..600 {
+            let lines = call_lines(&mut random);
+            let lines = answered_lines("test_calls", lines.as_bytes()).unwrap();
+            lines.iter().for_each(|line| tally.count(line));
         }
-        for (outcome, count) in calls.counts {
-            assert!(count >= 30, "{outcome}{count}");
-        }
+        assert!(tally.all_reach(10), "{tally}");
     }
 
     #[test]
@@ -306,11 +340,11 @@ mod tests {
         };
         let echo = Path::new("/bin/cat");
         let cases = [case("first\n", "a\nb\n"), case("second\n", "c\n")];
-        assert_eq!(compare(echo, b"a\nb\nc\n", &cases), Ok(()));
-        let wrong = compare(echo, b"a\nb\nd\n", &cases).unwrap_err();
+        assert_eq!(compare(echo, &[], b"a\nb\nc\n", &cases), Ok(()));
+        let wrong = compare(echo, &[], b"a\nb\nd\n", &cases).unwrap_err();
         assert!(wrong.ends_with("second\n"), "{wrong}");
-        let short = compare(echo, b"a\n", &cases).unwrap_err();
+        let short = compare(echo, &[], b"a\n", &cases).unwrap_err();
         assert!(short.ends_with("first\n"), "{short}");
-        assert!(compare(echo, b"a\nb\nc\nd\n", &cases).is_err());
+        assert!(compare(echo, &[], b"a\nb\nc\nd\n", &cases).is_err());
     }
 }

@@ -1,7 +1,8 @@
 //! The stored outputs of the programs, compared with this implementation or written by it.
 
 use crate::lines::first_difference;
-use crate::programs::{output, PROGRAMS};
+use crate::programs::{output, PROGRAMS, REHEARSE};
+use crate::rehearse_lines::rehearse;
 use std::fs;
 use std::path::{Path, PathBuf};
 
@@ -30,15 +31,41 @@ fn at(path: PathBuf) -> impl Fn(std::io::Error) -> String {
     move |error| format!("{}: {error}", path.display())
 }
 
+fn read(path: PathBuf) -> Result<Vec<u8>, String> {
+    fs::read(&path).map_err(at(path))
+}
+
 fn computed(name: &str, folder: &Path) -> Result<String, String> {
-    let path = folder.join("stdin");
-    output(name, &fs::read(&path).map_err(at(path))?)
+    let input = read(folder.join("stdin"))?;
+    if name == REHEARSE {
+        return rehearsed(folder, &input);
+    }
+    output(name, &input)
+}
+
+/// The words that rehearse is given stand in `args`, one to a line. The first is the path of a plan, and the plan of the
+/// same name is in the crate's folder `data`.
+fn rehearsed(folder: &Path, input: &[u8]) -> Result<String, String> {
+    let words = read(folder.join("args"))?;
+    let words = String::from_utf8_lossy(&words);
+    let name = words
+        .lines()
+        .next()
+        .and_then(|path| Path::new(path).file_name());
+    let plan = name.map(|name| read(folder.join("data").join(name)));
+    let (output, rehearsal) = rehearse(plan.transpose()?.as_deref(), input);
+    let objections = rehearsal
+        .iter()
+        .flat_map(|rehearsal| &rehearsal.watch.objections);
+    match objections.into_iter().next() {
+        Some(objection) => Err(objection.to_string()),
+        None => Ok(output),
+    }
 }
 
 fn check_one(name: &str, folder: &Path) -> Result<String, String> {
     let expected = computed(name, folder)?;
-    let path = folder.join("stdout");
-    let stored = fs::read(&path).map_err(at(path))?;
+    let stored = read(folder.join("stdout"))?;
     let stored = String::from_utf8_lossy(&stored);
     match first_difference(&stored, &expected) {
         None => Ok(format!("equal, {} lines", expected.lines().count())),

@@ -1,8 +1,11 @@
-//! Check 14 and the three calls on a site of fixed arrays, in few steps, so that their time can be compared.
+//! Check 14 and the calls on a site of fixed arrays, in few steps, so that their time can be compared.
 
 use crate::calls::{CELLS, COUNTERS};
 use crate::rules::{refuse, Refusal, Site, FLOW_NUMBERS, GAPS, MOST_DEPTH, MOST_LINKS};
 use std::array::from_fn;
+
+pub type Counters = [u32; COUNTERS];
+pub type Arrivals = [u16; FLOW_NUMBERS];
 
 #[derive(Clone, Debug, PartialEq, Eq)]
 pub struct FixedSite {
@@ -305,19 +308,98 @@ impl FixedSite {
         Ok(())
     }
 
+    fn sends(&self, index: usize, slot: u32) -> bool {
+        slot % u32::from(self.periods[index]) == u32::from(self.offsets[index])
+    }
+
     pub fn sender(&self, parent: u8, slot: u32) -> Result<u8, Refusal> {
         self.check_14()?;
         if parent > self.links {
             return refuse(6, 0);
         }
         for index in 0..self.links() {
-            if self.parents[index] == parent
-                && slot % u32::from(self.periods[index]) == u32::from(self.offsets[index])
-            {
+            if self.parents[index] == parent && self.sends(index, slot) {
                 return Ok(index as u8 + 1);
             }
         }
         Ok(0)
+    }
+
+    pub fn start(&self, counters: &mut [u32]) -> Result<(), Refusal> {
+        self.check_lent(counters)?;
+        counters.fill(0);
+        Ok(())
+    }
+
+    pub fn slot(&self, counters: &mut [u32], arrivals: &[u16], number: u32) -> Result<(), Refusal> {
+        let counters: Result<&mut Counters, _> = counters.try_into();
+        let arrivals: Result<&Arrivals, _> = arrivals.try_into();
+        let (Ok(counters), Ok(arrivals)) = (counters, arrivals) else {
+            return refuse(1, 0);
+        };
+        self.check_14()?;
+        self.slot_after_check_14(counters, arrivals, number)
+    }
+
+    /// For a site that passes check 14.
+    pub fn slot_after_check_14(
+        &self,
+        counters: &mut Counters,
+        arrivals: &Arrivals,
+        number: u32,
+    ) -> Result<(), Refusal> {
+        self.check_counts(counters, arrivals)?;
+        let mut sending = [false; MOST_LINKS];
+        for (index, sends) in sending[..self.links()].iter_mut().enumerate() {
+            *sends = self.sends(index, number);
+        }
+        for flow in self.live_flows() {
+            let cells = &mut counters[flow * CELLS..][..CELLS];
+            cells[0] += u32::from(arrivals[flow]);
+            self.advance(flow, cells, &sending);
+        }
+        Ok(())
+    }
+
+    /// 19, then 20, whose lowest number is found on the way.
+    fn check_counts(&self, counters: &Counters, arrivals: &Arrivals) -> Result<(), Refusal> {
+        let mut uncalled_for = None;
+        for (flow, cells) in counters.chunks_exact(CELLS).enumerate() {
+            if self.states[flow] == 0 {
+                if arrivals[flow] != 0 && uncalled_for.is_none() {
+                    uncalled_for = Some(flow);
+                }
+                continue;
+            }
+            let sum = cells.iter().map(|&cell| u64::from(cell)).sum::<u64>();
+            if sum + u64::from(arrivals[flow]) > u64::from(u32::MAX) {
+                return refuse(19, flow);
+            }
+        }
+        match uncalled_for {
+            Some(flow) => refuse(20, flow),
+            None => Ok(()),
+        }
+    }
+
+    /// Going up, what the link below moved joins a queue only after that queue's own link was judged.
+    fn advance(&self, flow: usize, cells: &mut [u32], sending: &[bool; MOST_LINKS]) {
+        let rate = u32::from(self.rates[flow]);
+        let mut joining = 0;
+        let mut place = 0;
+        let mut node = usize::from(self.entries[flow]);
+        while node != 0 {
+            let moved = if sending[node - 1] {
+                cells[place].min(rate * u32::from(self.gaps[node - 1]))
+            } else {
+                0
+            };
+            cells[place] = cells[place] - moved + joining;
+            joining = moved;
+            place += 1;
+            node = usize::from(self.parents[node - 1]);
+        }
+        cells[CELLS - 1] += joining;
     }
 }
 
@@ -325,42 +407,65 @@ impl FixedSite {
 mod tests {
     use super::*;
     use crate::bytes::passes_check_14;
+    use crate::calls::{admission, release, sender};
     use crate::programs::alter;
     use crate::random::Random;
-    use crate::random_calls::{random_call, Call};
+    use crate::random_calls::{arrivals_within_rates, random_call, random_counters, Call};
     use crate::random_gaps::{doubtful_gaps, fitting_gaps};
     use crate::random_sites::{random_alterations, site_to_alter};
     use crate::rules;
+    use crate::slots::{slot, start};
 
-    fn run(call: Call, site: &mut FixedSite, counters: &mut [u32]) -> Result<usize, Refusal> {
-        match call {
+    /// The child of a lookup. The other calls, where they are accepted, give 0.
+    fn run(call: &Call, site: &mut Site, counters: &mut [u32]) -> Result<usize, Refusal> {
+        let answer = match call {
+            Call::Admission { lent, flow } => admission(site, &mut counters[..*lent], *flow),
+            Call::Release { lent, number } => release(site, &mut counters[..*lent], *number),
+            Call::Lookup { parent, slot } => return sender(site, *parent, *slot),
+            Call::Start { lent } => start(site, &mut counters[..*lent]),
+            Call::Slot {
+                lent,
+                arrivals,
+                number,
+            } => slot(site, &mut counters[..*lent], arrivals, *number),
+        };
+        answer.map(|()| 0)
+    }
+
+    fn run_fixed(
+        call: &Call,
+        site: &mut FixedSite,
+        counters: &mut [u32],
+    ) -> Result<usize, Refusal> {
+        let answer = match call {
             Call::Admission { lent, flow } => {
                 let (number, entry) = (flow.number as u8, flow.entry as u8);
                 let (rate, deadline) = (flow.rate as u8, flow.deadline as u16);
-                let answer = site.admission(&mut counters[..lent], number, entry, rate, deadline);
-                answer.map(|()| 0)
+                site.admission(&mut counters[..*lent], number, entry, rate, deadline)
             }
-            Call::Release { lent, number } => {
-                let answer = site.release(&mut counters[..lent], number as u8);
-                answer.map(|()| 0)
-            }
+            Call::Release { lent, number } => site.release(&mut counters[..*lent], *number as u8),
             Call::Lookup { parent, slot } => {
-                site.sender(parent as u8, slot as u32).map(usize::from)
+                return site.sender(*parent as u8, *slot as u32).map(usize::from)
             }
-        }
+            Call::Start { lent } => site.start(&mut counters[..*lent]),
+            Call::Slot {
+                lent,
+                arrivals,
+                number,
+            } => site.slot(&mut counters[..*lent], arrivals, *number),
+        };
+        answer.map(|()| 0)
     }
 
     /// Runs the call on the site and on its copy in fixed arrays; answer, site and counters have to be equal.
-    fn run_both(call: Call, site: &mut Site, counters: &mut [u32]) {
+    fn run_both(call: &Call, site: &mut Site, counters: &mut [u32]) -> Result<usize, Refusal> {
         let (mut fixed, mut cells) = (FixedSite::from(&*site), counters.to_vec());
-        let answer = call.run(site, counters);
-        assert_eq!(
-            run(call, &mut fixed, &mut cells),
-            answer,
-            "{call:?} {site:?}"
-        );
+        let answer = run(call, site, counters);
+        let of_fixed = run_fixed(call, &mut fixed, &mut cells);
+        assert_eq!(of_fixed, answer, "{call:?} {site:?}");
         assert_eq!(fixed, FixedSite::from(&*site));
         assert_eq!(cells, counters);
+        answer
     }
 
     fn alter_at_random(random: &mut Random, site: &mut Site) {
@@ -368,19 +473,62 @@ mod tests {
         alter(site, &triples.concat());
     }
 
+    fn run_random_call(
+        random: &mut Random,
+        site: &mut Site,
+        counters: &mut [u32],
+    ) -> Result<usize, Refusal> {
+        let call = random_call(random, site);
+        if let Call::Slot { arrivals, .. } = &call {
+            for (index, value) in random_counters(random, site, arrivals) {
+                counters[index] = value;
+            }
+        }
+        run_both(&call, site, counters)
+    }
+
     #[test]
     fn calls_on_both_sites_agree() {
         let mut random = Random::from_seed(6);
+        let mut refusals = [0; 21];
         for _ in 0..400 {
             let (_, mut site) = site_to_alter(&mut random);
             let mut counters: Vec<u32> = (1..=COUNTERS as u32 + 1).collect();
-            for _ in 0..6 {
-                run_both(random_call(&mut random, &site), &mut site, &mut counters);
+            let mut answers = Vec::new();
+            for _ in 0..8 {
+                answers.push(run_random_call(&mut random, &mut site, &mut counters));
             }
             let call = random_call(&mut random, &site);
             alter_at_random(&mut random, &mut site);
-            run_both(call, &mut site, &mut counters);
+            answers.push(run_both(&call, &mut site, &mut counters));
+            for refusal in answers.into_iter().filter_map(Result::err) {
+                refusals[refusal.number as usize] += 1;
+            }
         }
+        for number in [1, 5, 6, 14, 15, 16, 17, 18, 19, 20] {
+            assert!(refusals[number] >= 30, "{number}: {}", refusals[number]);
+        }
+    }
+
+    #[test]
+    fn slots_in_sequence_agree() {
+        let mut random = Random::from_seed(9);
+        let mut delivered = 0;
+        for _ in 0..100 {
+            let (_, mut site) = site_to_alter(&mut random);
+            let (mut counters, first) = ([0; COUNTERS], random.between(0, 2000) as u32);
+            for number in first..first + 40 {
+                let call = Call::Slot {
+                    lent: COUNTERS,
+                    arrivals: arrivals_within_rates(&mut random, &site),
+                    number,
+                };
+                assert_eq!(run_both(&call, &mut site, &mut counters), Ok(0));
+            }
+            let last_cells = counters.chunks(CELLS).map(|cells| cells[CELLS - 1]);
+            delivered += last_cells.filter(|&cell| cell > 0).count();
+        }
+        assert!(delivered >= 100, "{delivered}");
     }
 
     #[test]

@@ -9,23 +9,34 @@ mod expected;
 mod fixed;
 mod lines;
 mod measure;
+mod outcomes;
 mod programs;
 mod random;
 mod random_calls;
 mod random_gaps;
 mod random_plans;
+mod random_sessions;
 mod random_sites;
+mod rehearsal;
+mod rehearse_lines;
 mod rules;
+mod slots;
+mod watch;
 
 use std::path::Path;
 use std::process::ExitCode;
 
-const USAGE: &str =
-    "host expected [--write]\nhost random N SEED [--bin DIR]\nhost measure PLAN_FILE";
+const USAGE: &str = "host expected [--write]\nhost random N SEED [--bin DIR]\nhost watch N SEED\n\
+    host measure PLAN_FILE";
 
 fn random(count: &str, seed: &str, folder: &str) -> Option<u8> {
     let (count, seed) = (count.parse().ok()?, seed.parse().ok()?);
     Some(compare::compare_random(count, seed, Path::new(folder)))
+}
+
+fn watch(count: &str, seed: &str) -> Option<u8> {
+    let (count, seed) = (count.parse().ok()?, seed.parse().ok()?);
+    Some(compare::watch_random(count, seed))
 }
 
 fn main() -> ExitCode {
@@ -36,6 +47,7 @@ fn main() -> ExitCode {
         ["expected", "--write"] => Some(expected::check_all(true)),
         ["random", count, seed] => random(count, seed, "target/bin"),
         ["random", count, seed, "--bin", folder] => random(count, seed, folder),
+        ["watch", count, seed] => watch(count, seed),
         ["measure", path] => Some(measure::measure(path)),
         _ => None,
     };

@@ -1,10 +1,11 @@
-//! The time of a release, a lookup and an admission on the site of a plan.
+//! The time of a release, a lookup, an admission and a slot on the site of a plan.
 
 use crate::bytes::read_plan;
 use crate::calls::COUNTERS;
-use crate::fixed::FixedSite;
+use crate::fixed::{Arrivals, FixedSite};
 use crate::programs::refused;
 use crate::rules::{Refusal, Site, FLOW_NUMBERS};
+use std::array::from_fn;
 use std::fs;
 use std::hint::black_box;
 use std::time::{Duration, Instant};
@@ -61,15 +62,41 @@ fn measured(site: &Site) -> [Calls; 3] {
     [releases, lookups, admissions]
 }
 
-fn report(path: &str) -> Result<String, String> {
-    let kinds = measured(&site_of_file(path)?);
+/// Slots with rising numbers, in each of which every flow's rate arrives: with check 14, then without it.
+fn measured_slots(site: &Site) -> Result<[Calls; 2], Refusal> {
+    let arrivals: Arrivals = from_fn(|flow| site.rates[flow] as u16);
+    let (site, mut counters) = (FixedSite::from(site), [1; COUNTERS]);
+    site.start(&mut counters)?;
+    let [mut slots, mut without] = [(); 2].map(|()| Calls::default());
+    for number in 0..ROUNDS {
+        let arrivals = black_box(&arrivals);
+        slots.time(|| black_box(&site).slot(black_box(&mut counters), arrivals, number));
+    }
+    for number in ROUNDS..2 * ROUNDS {
+        let (site, arrivals) = (black_box(&site), black_box(&arrivals));
+        without.time(|| site.slot_after_check_14(black_box(&mut counters), arrivals, number));
+    }
+    Ok([slots, without])
+}
+
+fn count_accepted(kinds: &[Calls]) -> String {
     let accepted: u32 = kinds.iter().map(|calls| calls.accepted).sum();
+    format!("accepted {accepted} of {}", kinds.len() as u32 * ROUNDS)
+}
+
+fn report(path: &str) -> Result<String, String> {
+    let site = site_of_file(path)?;
+    let kinds = measured(&site);
+    let slots = measured_slots(&site).map_err(refused)?;
+    let (calls_accepted, slots_accepted) = (count_accepted(&kinds), count_accepted(&slots));
     let [release, lookup, admission] = kinds.map(|calls| calls.nanoseconds());
+    let [slot, without] = slots.map(|calls| calls.nanoseconds());
     let round = release + lookup + admission;
     Ok(format!(
-        "accepted {accepted} of {} calls\n\
-        nanoseconds: round {round}, release {release}, lookup {lookup}, admission {admission}",
-        3 * ROUNDS
+        "{calls_accepted} calls\n\
+        nanoseconds: round {round}, release {release}, lookup {lookup}, admission {admission}\n\
+        {slots_accepted} slots\n\
+        nanoseconds: slot {slot}, without check 14 {without}"
     ))
 }
 

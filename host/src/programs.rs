@@ -1,6 +1,6 @@
 //! What each program prints for an input.
 
-use crate::bytes::{passes_check_14, read_plan, write_plan, write_schedule};
+use crate::bytes::{passes_check_14, read_plan, write_plan, write_schedule, written};
 use crate::call_lines::Desk;
 use crate::rules::{slot_rule, Refusal, Site};
 
@@ -14,29 +14,42 @@ pub const PROGRAMS: &[&str] = &[
     "test_altered",
     "test_deals",
     "test_calls",
+    REHEARSE,
 ];
+
+/// The program that is given a plan in a file besides its input.
+pub const REHEARSE: &str = "rehearse";
 
 pub const OF_8_BITS: u64 = 255;
 pub const OF_16_BITS: u64 = 65_535;
 pub const OF_32_BITS: u64 = 4_294_967_295;
 
-/// A schedule of 63 links has 63 times 6 bytes and END.
-const LONGEST_SCHEDULE: usize = 379;
+/// A line of input and what is printed for it.
+pub struct Answered {
+    pub line: String,
+    pub answer: String,
+}
 
 /// The error is about an input outside the form that the program reads.
 pub fn output(program: &str, input: &[u8]) -> Result<String, String> {
     match program {
         "slotplan" | "test_figures" | "test_bounds" | "test_overlong" => Ok(slotplan(input)),
+        _ => Ok(printed(&answered_lines(program, input)?)),
+    }
+}
+
+pub fn printed(lines: &[Answered]) -> String {
+    lines.iter().map(|line| line.answer.as_str()).collect()
+}
+
+/// For the programs that read lines.
+pub fn answered_lines(program: &str, input: &[u8]) -> Result<Vec<Answered>, String> {
+    let (mut site, mut desk) = (Site::empty(), Desk::new());
+    match program {
         "test_vectors" => each_line(input, vectors_line),
-        "test_altered" => {
-            let mut site = Site::empty();
-            each_line(input, |line| altered_line(&mut site, line))
-        }
+        "test_altered" => each_line(input, |line| altered_line(&mut site, line)),
         "test_deals" => each_line(input, deals_line),
-        "test_calls" => {
-            let mut desk = Desk::new();
-            each_line(input, |line| desk.line(line))
-        }
+        "test_calls" => each_line(input, |line| desk.line(line)),
         _ => Err(format!("no program {program}")),
     }
 }
@@ -44,17 +57,19 @@ pub fn output(program: &str, input: &[u8]) -> Result<String, String> {
 fn each_line(
     input: &[u8],
     mut answer: impl FnMut(&str) -> Result<String, String>,
-) -> Result<String, String> {
+) -> Result<Vec<Answered>, String> {
     let text = std::str::from_utf8(input).map_err(|error| error.to_string())?;
-    let mut output = String::new();
+    let mut lines = Vec::new();
     for line in text.split_terminator('\n') {
-        if line.starts_with('#') {
-            output += &format!("{line}\n");
+        let answer = if line.starts_with('#') {
+            format!("{line}\n")
         } else {
-            output += &answer(line).map_err(|error| format!("{error} in line: {line}"))?;
-        }
+            answer(line).map_err(|error| format!("{error} in line: {line}"))?
+        };
+        let line = line.to_string();
+        lines.push(Answered { line, answer });
     }
-    Ok(output)
+    Ok(lines)
 }
 
 pub fn slotplan(plan: &[u8]) -> String {
@@ -64,7 +79,7 @@ pub fn slotplan(plan: &[u8]) -> String {
     }
 }
 
-fn links_and_flows(site: &Site) -> String {
+pub fn links_and_flows(site: &Site) -> String {
     let mut output = String::new();
     for node in site.nodes() {
         let parent = site.parents[node - 1];
@@ -86,6 +101,10 @@ fn links_and_flows(site: &Site) -> String {
 
 pub fn refused(refusal: Refusal) -> String {
     format!("refused {} {}", refusal.number, refusal.place)
+}
+
+pub fn verdict(answer: Result<(), Refusal>) -> String {
+    answer.map_or_else(refused, |()| "accepted".to_string())
 }
 
 fn length_or_refusal(answer: Result<usize, Refusal>) -> String {
@@ -124,11 +143,10 @@ fn vectors_line(line: &str) -> Result<String, String> {
     let mut again = vec![0; plan.len()];
     let plan_answer = length_or_refusal(write_plan(&site, &mut again));
     let equal = if again == plan { " equal" } else { "" };
-    let mut schedule = vec![0; LONGEST_SCHEDULE];
-    let answer = write_schedule(&site, &mut schedule);
-    schedule.truncate(answer.unwrap_or(0));
-    let (links, schedule_answer) = (site.links, length_or_refusal(answer));
-    let bytes = hex(&schedule);
+    let schedule = written(&site, write_schedule);
+    let bytes = hex(schedule.as_deref().unwrap_or_default());
+    let schedule_answer = length_or_refusal(schedule.map(|bytes| bytes.len()));
+    let links = site.links;
     Ok(format!(
         "accepted links {links} plan {plan_answer}{equal} schedule {schedule_answer}{bytes}\n"
     ))
@@ -237,7 +255,7 @@ mod tests {
     const PLAN_P: &str =
         "01 00 14 00 04 00 01 00 14 00 06 00 01 01 09 00 03 00 02 00 03 03 07 00 FF";
 
-    fn printed(program: &str, input: &str) -> String {
+    fn output_of(program: &str, input: &str) -> String {
         output(program, input.as_bytes()).unwrap()
     }
 
@@ -257,7 +275,7 @@ mod tests {
         let input = format!("# a remark\n\n{PLAN_P}\n");
         let expected = "# a remark\nrefused 2 0\naccepted links 3 plan 25 equal schedule 19 \
             11 01 00 00 04 00 11 02 01 00 04 00 11 03 00 00 03 00 FF\n";
-        assert_eq!(printed("test_vectors", &input), expected);
+        assert_eq!(output_of("test_vectors", &input), expected);
     }
 
     #[test]
@@ -270,7 +288,7 @@ mod tests {
             "does not pass, plan refused 14 0:, schedule refused 14 0:\n",
             "passes, plan refused 1 0:, schedule refused 1 0:\n",
         ];
-        assert_eq!(printed("test_altered", &input), answers.concat());
+        assert_eq!(output_of("test_altered", &input), answers.concat());
     }
 
     #[test]
@@ -279,7 +297,7 @@ mod tests {
         let input = format!("1\nP {plan}\n8\n");
         let expected = "passes, plan refused 9 0: 64, schedule refused 9 0: 64\n\
             passes, plan 7: 01 00 14 00 04 00 FF 6B, schedule 7: 11 01 00 00 04 00 FF 6B\n";
-        assert_eq!(printed("test_altered", &input), expected);
+        assert_eq!(output_of("test_altered", &input), expected);
     }
 
     #[test]
@@ -289,7 +307,7 @@ mod tests {
             refused 1 0 offsets 500 periods 700 701\n\
             refused 11 0 offsets 500 501 periods 700 701\n\
             refused 5 0 offsets periods\n";
-        assert_eq!(printed("test_deals", input), expected);
+        assert_eq!(output_of("test_deals", input), expected);
     }
 
     #[test]
@@ -303,7 +321,33 @@ mod tests {
             accepted site 6 5 0 7 5 0 8 5 0 9 5 0 \
             counters 45 0 46 0 47 0 48 0 49 0 50 0 51 0 52 0 53 0\n\
             sender 2\n";
-        assert_eq!(printed("test_calls", &input), expected);
+        assert_eq!(output_of("test_calls", &input), expected);
+    }
+
+    #[test]
+    fn calls_prints_the_counters_that_a_slot_changed() {
+        let input = format!(
+            "P {PLAN_P}\nC 1\nK 1 18\nK 577 5\nS 576 64 16 0 4\nS 576 64 16 0 65539 64 1 65 1 5\n\
+            S 576 65 16\nS 578 64 16\nS 576 66 16\nS 575 64 16\nK 8 42949672809\nS 576 64 17 0 2 5 1\n\
+            S 576 64 17 0 1 5 1\nS 576 64 17 0 1\nX 4 1 2\nS 576 64 17 0 9\n"
+        );
+        let expected = "accepted counters 0 5 1 6 8 13\naccepted counters 0 8 1 0 8 19\n\
+            refused 1 0 counters\nrefused 1 0 counters\nrefused 19 0 counters\n\
+            refused 20 5 counters\naccepted counters 0 9\nrefused 14 0 counters\n";
+        assert_eq!(output_of("test_calls", &input), expected);
+    }
+
+    #[test]
+    fn calls_prints_the_counters_that_a_start_changed() {
+        let input = format!(
+            "P {PLAN_P}\nC 1\nK 1 0\nT 575\nT 577\nT 578\nX 4 1 2\nT 576\nX 4 1 1\nT 576\n"
+        );
+        let cleared = (0..576).filter(|&index| index != 1);
+        let cleared: String = cleared.map(|index| format!(" {index} 0")).collect();
+        let expected = format!(
+            "refused 1 0 counters\nrefused 1 0 counters\nrefused 14 0 counters\naccepted counters{cleared}\n"
+        );
+        assert_eq!(output_of("test_calls", &input), expected);
     }
 
     #[test]
@@ -328,6 +372,9 @@ mod tests {
             "C x",
             "X 0 0 x",
             "P 0",
+            "K 1",
+            "T",
+            "S 576 64",
         ];
         for line in lines {
             assert!(

@@ -230,6 +230,22 @@ impl Site {
             .collect()
     }
 
+    pub fn numbers_not_live(&self) -> Vec<usize> {
+        (0..FLOW_NUMBERS)
+            .filter(|&flow| !self.is_live(flow))
+            .collect()
+    }
+
+    /// 01, slot rule 6.
+    pub fn sends(&self, link: usize, slot: u64) -> bool {
+        slot % self.periods[link - 1] == self.offsets[link - 1]
+    }
+
+    /// 01, "Reservations": what a flow reserves on a link of its route.
+    pub fn width(&self, flow: usize, link: usize) -> u64 {
+        self.rates[flow] * self.gaps[link - 1]
+    }
+
     pub fn add_flow(&mut self, flow: Flow) {
         let values = [1, flow.entry as u64, flow.rate, flow.deadline];
         self.set_flow(flow.number, values);
@@ -301,7 +317,7 @@ impl Site {
         self.live_flows()
             .into_iter()
             .filter(|&flow| self.route_of_flow(flow).contains(&link))
-            .map(|flow| self.rates[flow] * self.gaps[link - 1])
+            .map(|flow| self.width(flow, link))
             .sum()
     }
 

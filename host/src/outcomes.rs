@@ -1,0 +1,124 @@
+//! Answers counted by call and outcome.
+
+use crate::programs::Answered;
+use std::fmt;
+
+/// The lines of one call, with what their answers begin with if they are no refusals, and the numbers that may refuse it.
+pub struct Call {
+    /// What its lines begin with: every line begins with the empty text.
+    begins: &'static str,
+    name: &'static str,
+    answers: &'static [&'static str],
+    refusals: &'static [u64],
+}
+
+const fn call(
+    [begins, name]: [&'static str; 2],
+    answers: &'static [&'static str],
+    refusals: &'static [u64],
+) -> Call {
+    Call {
+        begins,
+        name,
+        answers,
+        refusals,
+    }
+}
+
+const ACCEPTED: &[&str] = &["accepted"];
+
+pub const PLANS: &[Call] = &[call(
+    ["", ""],
+    ACCEPTED,
+    &[2, 3, 4, 5, 6, 7, 8, 9, 10, 11, 12, 13],
+)];
+pub const SITES: &[Call] = &[call(["", ""], &["passes", "does not pass"], &[])];
+pub const GAP_LISTS: &[Call] = &[call(["", ""], &["base"], &[1, 5, 11])];
+
+/// The calls of test_calls.
+pub const CALLS: &[Call] = &[
+    call(["A", "admission "], ACCEPTED, &[1, 14, 5, 6, 15, 17, 18]),
+    call(["R", "release "], ACCEPTED, &[1, 14, 5, 16]),
+    call(["L", "lookup "], &["sender"], &[14, 6]),
+    call(["T", "start "], ACCEPTED, &[1, 14]),
+    call(["S", "slot "], ACCEPTED, &[1, 14, 19, 20]),
+];
+
+/// The calls of rehearse. Its site passes check 14, and it lends lists of the right lengths.
+pub const SESSIONS: &[Call] = &[
+    call(["start", "start "], ACCEPTED, &[]),
+    call(["slot", "slot "], ACCEPTED, &[20]),
+    call(["admit", "admission "], ACCEPTED, &[5, 6, 15, 17, 18]),
+    call(["release", "release "], ACCEPTED, &[5, 16]),
+    call(["sender", "lookup "], &["sender"], &[6]),
+    call(["cells", ""], &["cells"], &[]),
+    call(["bound", ""], &["bound", "not live"], &[]),
+    call(["plan", "plan beginning "], &["01"], &[]),
+    call(["schedule", "schedule beginning "], &["11"], &[]),
+    call(["show", "show beginning "], &["link"], &[]),
+    call(["", ""], &["error"], &[]),
+];
+
+struct Outcome {
+    line_begins: &'static str,
+    answer_begins: String,
+    shown: String,
+    count: u64,
+}
+
+impl Call {
+    fn outcomes(&self) -> Vec<Outcome> {
+        let outcome = |answer_begins: String, shown: String| Outcome {
+            line_begins: self.begins,
+            answer_begins,
+            shown: format!("{}{shown}", self.name),
+            count: 0,
+        };
+        let answers = self.answers.iter();
+        let answers = answers.map(|&answer| outcome(answer.to_string(), answer.to_string()));
+        let refusals = self.refusals.iter();
+        let refusals =
+            refusals.map(|number| outcome(format!("refused {number} "), number.to_string()));
+        answers.chain(refusals).collect()
+    }
+}
+
+/// How often each outcome was met.
+pub struct Tally {
+    heading: &'static str,
+    outcomes: Vec<Outcome>,
+}
+
+impl Tally {
+    pub fn new(heading: &'static str, calls: &[Call]) -> Tally {
+        Tally {
+            heading,
+            outcomes: calls.iter().flat_map(Call::outcomes).collect(),
+        }
+    }
+
+    pub fn count(&mut self, line: &Answered) {
+        for outcome in &mut self.outcomes {
+            if line.line.starts_with(outcome.line_begins)
+                && line.answer.starts_with(&outcome.answer_begins)
+            {
+                outcome.count += 1;
+            }
+        }
+    }
+
+    /// Whether each outcome was met this often.
+    #[cfg(test)]
+    pub fn all_reach(&self, least: u64) -> bool {
+        self.outcomes.iter().all(|outcome| outcome.count >= least)
+    }
+}
+
+impl fmt::Display for Tally {
+    fn fmt(&self, form: &mut fmt::Formatter) -> fmt::Result {
+        writeln!(form, "{}:", self.heading)?;
+        self.outcomes
+            .iter()
+            .try_for_each(|outcome| writeln!(form, "{}: {}", outcome.shown, outcome.count))
+    }
+}
