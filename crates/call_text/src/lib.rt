@@ -173,9 +173,11 @@ fn slot_line(line: &[u8], from: usize, arrivals: &mut [u16]) -> Line
 }
 
 // Reads a line. The arrivals of a slot are put into the 64 numbers that are lent; those of flows that the line does not name stay as they are.
-pub fn read_line(line: &[u8], arrivals: &mut [u16]) -> Line
-    requires { ⌜ 64 ≡ length (now arrivals) ⌝ }
-{
+// With any other count of numbers no line can be read.
+pub fn read_line(line: &[u8], arrivals: &mut [u16]) -> Line {
+    if arrivals.len() != 64 {
+        return Line::Malformed;
+    }
     if passed_over(line) {
         return Line::PassedOver;
     }

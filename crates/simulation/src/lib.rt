@@ -61,9 +61,9 @@ pub fn sender(site: Site, parent: u8, slot: u32) -> Lookup
 pub fn start(site: Site, counters: &mut [u32]) -> Verdict
     ensures { λ r. ⌜ (ruling r, now (counters .exit)) ≡ startOf site (now (counters .entry)) ⌝ }
 {
-    let call = limits::call_fault(site, counters);
-    if call != 0 {
-        return Verdict::Refused(call, 0);
+    let fault = limits::call_fault(site, counters);
+    if fault != 0 {
+        return Verdict::Refused(fault, 0);
     }
     counters::clear(counters);
     Verdict::Accepted

@@ -24,11 +24,11 @@ pub fn value_of(values: &[u16], node: u8) -> u16
     if node == 0 {
         return 0;
     }
-    let i = (node - 1) as usize;
-    if values.len() <= i {
+    let at = (node - 1) as usize;
+    if values.len() <= at {
         return 0;
     }
-    values[i]
+    values[at]
 }
 
 // 01: one more than the parent's depth. It calls itself on the parent, whose number is smaller.
