@@ -4,7 +4,7 @@ pub mod Frame
 pub mod Demand
 pub mod Bytes
 pub mod Reach
-use Prim.Native.Nat.{ℕ, zero, suc, _+_, _-_, _≤_, _<_}
+use Prim.Native.Nat.{ℕ, zero, suc, _+_, _-_, _≤_}
 use mathlib.Core.Path.{_≡_, refl, sym, _∙_, ap}
 use mathlib.Core.Bool.{true}
 use mathlib.Core.List.{List, [], _∷_, _++_, map}
@@ -21,9 +21,9 @@ use Rattle.site.proofs.Laws.Reservations.{live-with}
 use Rattle.limits.specs.Check.{flowOf, passesOf}
 use Rattle.limits.proofs.Laws.{passes-sound, flow-taken, bound-within}
 use Rattle.limits.proofs.Laws.Flows.{live-few, live-fits}
-use Rattle.counters.specs.Blocks.{cellsOf, zeros}
+use Rattle.counters.specs.Blocks.{cellsOf}
 use Rattle.counters.proofs.Laws.{length-zeros}
-use Rattle.queues.specs.Cells.{Entry, steps, delivered, arrivals}
+use Rattle.queues.specs.Cells.{Entry, steps, arrivals}
 use Rattle.queues.specs.Pace.{All, Rising}
 use Rattle.queues.specs.Words.{HasLeft}
 use Rattle.queues.proofs.Laws.Delay.{span-some}
@@ -38,7 +38,7 @@ use Rattle.simulation.proofs.Laws.{slot-accepted, slot-refused, slot-cells, sta
 use Rattle.guarantee.specs.Runs.{Call, slot, admit, release, start, State, Promise, Log, Run, none, then, admissions}
 use Rattle.guarantee.specs.Demand.{slotsOf, Stays, NoStart, rateOf, boundOf, Begins, Allowed, Kept, newest}
 use Rattle.guarantee.specs.Words.{Exchanged, bytesBefore, bytesBehind, nodesAlone}
-use Rattle.guarantee.proofs.Laws.Demand.{Followed, followed, demand3-any, own-steady, span-along, own-few, own-serves, own-some, own-short}
+use Rattle.guarantee.proofs.Laws.Demand.{followed, demand3-any, own-steady, span-along, own-few, own-serves, own-some, own-short}
 use Rattle.guarantee.proofs.Laws.Bytes.{plan-parts, plan-without}
 use Rattle.guarantee.proofs.Laws.Reach.{below-none, below-all, below-passes, reach}
 

@@ -79,10 +79,6 @@ Holds (schedules plan bytes) = scheduleOf (withSite (readOf plan)) (replicate (l
 Holds (admits plan cells flow result) = admitOf (withSite (readOf plan) .1) cells flow ≡ result
 Holds (plays plan cells arrivals n result) = played (withSite (readOf plan) .1) arrivals n 0 (accepted tt, cells) ≡ result
 
-abbrev pub All : List Row → Type 0
-All [] = Unit {0}
-All (row ∷ rows) = Holds row × All rows
-
 abbrev pub table : List Row
 table =
     deals (4 ∷ 6 ∷ 6 ∷ 6 ∷ 6 ∷ []) (21 ∷ 22 ∷ 23 ∷ 24 ∷ 25 ∷ []) (31 ∷ 32 ∷ 33 ∷ 34 ∷ 35 ∷ [])

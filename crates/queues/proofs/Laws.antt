@@ -11,7 +11,7 @@ use lib.Seq.{ext-getD}
 use native.Mathlib.Omega.{arith}
 use Rattle.pinwheel.proofs.Laws.Search.{lt-or-le}
 use Rattle.queues.specs.Cells.{Hop, moved, arrived, delivering, passed, step, delivered}
-use Rattle.queues.specs.Words.{hopAt, held, movedBy, movedTo, Stepped}
+use Rattle.queues.specs.Words.{hopAt, held, movedTo, Stepped}
 use Rattle.queues.proofs.Laws.Cells.{length-arrived, length-step}
 
 -- Packets that are delivered change the last cell and no other.

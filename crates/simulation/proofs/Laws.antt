@@ -2,7 +2,7 @@
 -- each is accepted, which check refuses it with which place, and what each leaves. The modules named here hold a law for each answer of the code, and the lemmas.
 pub mod Answers
 pub mod Moves
-use Prim.Native.Nat.{ℕ, _+_, _*_, _≤_, _<_}
+use Prim.Native.Nat.{ℕ, _+_, _≤_, _<_}
 use mathlib.Core.Path.{_≡_, refl, sym, _∙_, ap}
 use mathlib.Core.Bool.{Bool, true, false, not, cond, false≢true, _&&_, and-eq-true-iff}
 use mathlib.Core.List.{List}
@@ -12,26 +12,25 @@ use lib.ListN.{length, getD}
 use borrow.Author.Tests.{lt-ltb, le-ltb, eq-eqb, eqb-true, ltb-true, ltb-false, not-true, not-false}
 use native.Mathlib.Decide.{ℕ-discrete}
 use native.Mathlib.Omega.{arith}
-use Rattle.pinwheel.specs.Outcome.{Outcome, Ruling, accepted, refused, settled, Checks, none, check, Ruled, nothing}
+use Rattle.pinwheel.specs.Outcome.{Outcome, Ruling, accepted, refused, Checks, none, check, Ruled, nothing}
 use Rattle.pinwheel.specs.Search.{first, total, joined}
 use Rattle.pinwheel.proofs.Laws.Outcomes.{past, checked-pass, checked-past, settled-accepted, settled-refused, ruled-check, ruled-test, ruled-end}
 use Rattle.pinwheel.proofs.Laws.Search.{lt-or-le, last-passes, last-above, last-is, first-none, first-found}
 use Rattle.site.specs.declared.Site.{Site}
 use Rattle.site.specs.Sites.{used, ofLink, live}
-use Rattle.site.specs.Reservations.{routeOf}
 use Rattle.schedule.proofs.Laws.Slots.{sends-in}
 use Rattle.limits.specs.Check.{passesOf, callFault}
 use Rattle.limits.specs.Words.{Sound}
 use Rattle.limits.proofs.Laws.{passes-sound, call-when, site-first, call-first, siblings-apart, route-whole}
 use Rattle.limits.proofs.Laws.Check.{passes-few}
 use Rattle.limits.proofs.Laws.Tests.{not-when}
-use Rattle.counters.specs.Blocks.{block, cellsOf, zeros}
-use Rattle.counters.proofs.Laws.{length-block, length-joined, block-joined, block-zeros, length-zeros}
+use Rattle.counters.specs.Blocks.{cellsOf, zeros}
+use Rattle.counters.proofs.Laws.{length-block, length-joined, block-joined, block-zeros}
 use Rattle.simulation.specs.Sender.{childSends, sendingChild, senderOf}
 use Rattle.simulation.specs.Hops.{Service}
 use Rattle.simulation.specs.Slot.{recounted, overflows, firstOverflow, unexpected, firstUnexpected, slotRuling, cellsAfter, slotOf, startRuling, startOf}
 use Rattle.simulation.specs.Words.{ChildSends, NoneSends, SendingChild, senderChecks, Overflows, Unexpected, Lowest, Playable, slotChecks, startChecks}
-use Rattle.simulation.specs.Inner.{Movable, AllMovable}
+use Rattle.simulation.specs.Inner.{AllMovable}
 use Rattle.simulation.proofs.Laws.Answers.{sender-found, slot-passes}
 use Rattle.simulation.proofs.Laws.Moves.{length-after}
 

@@ -1,11 +1,10 @@
 -- The premises of demand 3 hold of a list with every kind of call, so they do not exclude each other; and its bounds are met, so that no smaller ones hold.
-use Prim.Native.Nat.{ℕ, _+_, _-_, _*_, _≤_}
-use mathlib.Core.Path.{_≡_, refl, sym, _∙_}
-use mathlib.Core.Bool.{true}
+use Prim.Native.Nat.{ℕ, _-_, _*_, _≤_}
+use mathlib.Core.Path.{_≡_, refl}
 use mathlib.Core.List.{List, [], _∷_}
-use lib.ListN.{getD, drop}
+use lib.ListN.{drop}
 use native.Mathlib.Omega.{arith}
-use Rattle.pinwheel.specs.Outcome.{Ruling, accepted, checked, settled}
+use Rattle.pinwheel.specs.Outcome.{accepted, checked, settled}
 use Rattle.pinwheel.specs.Search.{last, first, any, total, largest, least, smallest, joined}
 use Rattle.pinwheel.specs.Rule.{exponent, period, sum, limit, fits, base, periodsOf}
 use Rattle.pinwheel.specs.Rule.{sends, earlier, taken, freeOffset, turn, level, levels, offsetsFor, offsetsOf}
@@ -28,7 +27,7 @@ use Rattle.guarantee.specs.Runs.{Call, slot, admit, release, start, State, Prom
 use Rattle.guarantee.specs.Demand.{entered, slotsOf, Stays, NoStart, rateOf, boundOf, Begins, Allowed, WaitsJoined, Waits, Kept}
 use Rattle.guarantee.proofs.Laws.{demand3}
 use Rattle.marked.specs.Table.{readP}
-use Rattle.witness.specs.Lists.{called, played, stateP, arrivalsP, slotsFrom, acceptedFrom, mixed, mixedLog, sixteen, lone}
+use Rattle.witness.specs.Lists.{called, played, stateP, arrivalsP, acceptedFrom, mixed, mixedLog, sixteen, lone}
 
 -- What is played is a run.
 promised : (c : Call) (σ : State) → Promise own c σ (called c σ .0) (called c σ .1)

@@ -3,21 +3,21 @@ use Prim.Native.Nat.{ℕ, suc, _+_, _-_, _*_, _≤_, _<_}
 use mathlib.Core.Path.{_≡_, refl, sym, _∙_, ap}
 use mathlib.Core.Bool.{true}
 use mathlib.Core.List.{List, [], _∷_}
-use lib.ListN.{length, getD, drop}
+use lib.ListN.{length, getD}
 use native.Mathlib.Nat.{mul-le-mul-left}
 use native.Mathlib.Omega.{arith}
 use Rattle.pinwheel.specs.Outcome.{Ruling, accepted, refused, Ruled, nothing}
 use Rattle.pinwheel.specs.Search.{total}
 use Rattle.site.specs.declared.Site.{Site}
 use Rattle.site.specs.Sites.{live, ofLink}
-use Rattle.site.specs.Reservations.{gapsJudged, routeOf, widthAt, along, delayBound}
+use Rattle.site.specs.Reservations.{gapsJudged, widthAt, along}
 use Rattle.site.specs.Words.{Leads, root, link}
 use Rattle.schedule.specs.Schedule.{linkSends}
 use Rattle.limits.specs.Check.{passesOf, flowOf}
 use Rattle.limits.proofs.Laws.{passes-sound, link-once, period-within, route-whole}
 use Rattle.limits.proofs.Laws.Flows.{live-few, live-fits}
 use Rattle.counters.specs.Blocks.{cellsOf, zeros}
-use Rattle.queues.specs.Cells.{Hop, Entry, steps, arrived, waiting, delivered, arrivals, span}
+use Rattle.queues.specs.Cells.{Hop, Entry, steps, waiting, arrivals, span}
 use Rattle.queues.specs.Pace.{Serves, All, Rising, Within, paced}
 use Rattle.queues.proofs.Laws.Delay.{paced-curve, paced-all, rising-rest, delivered-by, arrivals-kept, waiting-after, waiting-within}
 use Rattle.admission.specs.Calls.{change, admitOf, releaseOf}

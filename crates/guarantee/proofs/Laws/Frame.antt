@@ -1,11 +1,10 @@
 -- What a call leaves of a flow that it does not end: its place in the site, and cells that went through the slot, if the call was an accepted one.
-use Prim.Native.Nat.{ℕ, _+_, _*_, _≤_, _<_}
+use Prim.Native.Nat.{ℕ, _≤_, _<_}
 use mathlib.Core.Path.{_≡_, refl, sym, _∙_, ap}
-use mathlib.Core.Bool.{Bool, true, false, cond, false≢true}
-use mathlib.Core.List.{List, [], _∷_}
+use mathlib.Core.Bool.{true, false, false≢true}
+use mathlib.Core.List.{List, []}
 use lib.ListN.{length, getD, set}
 use lib.Seq.{getD-set-other}
-use native.Mathlib.Omega.{arith}
 use Rattle.pinwheel.specs.Outcome.{Ruling, accepted, refused}
 use Rattle.site.specs.declared.Site.{Site}
 use Rattle.site.specs.declared.Flow.{Flow}
@@ -13,7 +12,6 @@ use Rattle.site.specs.Sites.{live, withFields, withFlow, withoutFlow}
 use Rattle.site.specs.Reservations.{routeOf}
 use Rattle.counters.specs.Blocks.{cellsOf, withCells, zeros}
 use Rattle.queues.specs.Cells.{steps}
-use Rattle.admission.specs.Calls.{admitOf, releaseOf}
 use Rattle.admission.proofs.Laws.{admit-accepted, admit-refused, release-accepted, release-refused, cells-after}
 use Rattle.simulation.specs.Hops.{Service, hopsOf}
 use Rattle.simulation.specs.Slot.{cellsAfter}

@@ -12,7 +12,7 @@ use Rattle.pinwheel.specs.Search.{total}
 use Rattle.pinwheel.proofs.Laws.Search.{lt-or-le}
 use Rattle.counters.specs.Blocks.{zeros}
 use Rattle.counters.proofs.Laws.{length-zeros}
-use Rattle.queues.specs.Cells.{Hop, Entry, moved, arrived, delivering, passed, step, steps, waiting, delivered, arrivals, span}
+use Rattle.queues.specs.Cells.{Hop, Entry, moved, arrived, passed, step, steps, waiting, delivered, arrivals, span}
 use Rattle.queues.specs.Pace.{Serves, All, Rising, Within, Curve, paced}
 use Rattle.queues.proofs.Laws.Cells.{final, final-rest, final-delivering, final-zeros, total-delivering, total-passed, total-arrived, total-steps}
 use Rattle.queues.proofs.Laws.Cells.{total-zeros, total-parts, length-arrived, length-steps, delivered-final, waiting-arrived}

@@ -1,6 +1,6 @@
 -- One law for each answer of the lookup, a slot and a start, and for each turn of the searches.
 use Prim.Native.Nat.{ℕ, _+_, _-_, _*_, _≤_, _<_}
-use mathlib.Core.Path.{_≡_, sym, _∙_, ap}
+use mathlib.Core.Path.{_≡_, sym, _∙_}
 use mathlib.Core.Bool.{Bool, true, false, not}
 use mathlib.Core.List.{List}
 use lib.Dec.{eqb}
@@ -9,7 +9,7 @@ use borrow.Author.Tests.{lt-ltb, le-ltb, le-leb, eq-eqb, ne-eqb}
 use native.Mathlib.Nat.{mod-zero}
 use native.Mathlib.Omega.{arith}
 use Rattle.pinwheel.specs.Outcome.{Ruling, accepted, refused, settled}
-use Rattle.pinwheel.specs.Search.{last, total, joined}
+use Rattle.pinwheel.specs.Search.{last, total}
 use Rattle.pinwheel.specs.Rule.{sends}
 use Rattle.pinwheel.proofs.Laws.Outcomes.{checked-pass, checked-fail}
 use Rattle.pinwheel.proofs.Laws.Search.{last-hit, last-miss}
@@ -23,8 +23,7 @@ use Rattle.schedule.specs.Judge.{ruling}
 use Rattle.limits.specs.Check.{passesOf, callFault}
 use Rattle.counters.specs.Blocks.{block, cellsOf, zeros}
 use Rattle.simulation.specs.Sender.{childSends, sendingChild, senderOf}
-use Rattle.simulation.specs.Hops.{own}
-use Rattle.simulation.specs.Slot.{overflows, firstOverflow, unexpected, firstUnexpected, slotRuling, cellsAfter, recounted, slotOf, startRuling, startOf}
+use Rattle.simulation.specs.Slot.{overflows, firstOverflow, unexpected, firstUnexpected, slotRuling, recounted, startRuling, startOf}
 
 -- Slot rule 6 at period 0, which no link in use has: a remainder by 0 is the number itself.
 pub sends-never : (p o t : ℕ) → p ≡ 0 → eqb t o ≡ sends p o t

@@ -7,8 +7,8 @@ use mathlib.Core.Logic.{_⊎_, inl, inr}
 use lib.ListN.{length, getD, take, drop, set, replicate, length-set, length-append, length-drop, drop-of-length-le, List·getD-eq-default, take-append-drop}
 use lib.Seq.{drop-cons, take-suc-set, drop-set-lt, append-snoc, getD-set-same, getD-set-other, drop-drop, take-at, drop-at}
 use borrow.Author.Count.{below-more}
-use borrow.Author.Tests.{lt-ltb, le-ltb, le-leb, lt-leb, eq-eqb, ne-eqb}
-use native.Mathlib.Nat.{mul-zero, zero-add}
+use borrow.Author.Tests.{lt-ltb, le-leb, lt-leb, eq-eqb, ne-eqb}
+use native.Mathlib.Nat.{mul-zero}
 use native.Mathlib.Numerals.{add-one}
 use native.Mathlib.Omega.{arith}
 use Rattle.pinwheel.specs.Search.{total, joined}
@@ -19,7 +19,7 @@ use Rattle.site.specs.declared.Site.{Site}
 use Rattle.site.specs.Sites.{used, ofLink, live}
 use Rattle.site.specs.Tree.{up, route}
 use Rattle.site.specs.Reservations.{gapsJudged, routeOf, widthAt}
-use Rattle.site.proofs.Laws.Tree.{link-in, link-out, route-up, route-end}
+use Rattle.site.proofs.Laws.Tree.{route-up, route-end}
 use Rattle.schedule.specs.Schedule.{linkSends}
 use Rattle.counters.specs.Blocks.{block, cellsOf}
 use Rattle.counters.proofs.Laws.{length-block, length-joined}

@@ -1,11 +1,9 @@
 -- Right because `Moving` holds: from the cells as they are, the links from the node up give what all of them gave at the start; no sum leaves 32 bits, since all
 -- packets together fit; the node's number falls.
 use borrow.Author.Needs.{needs}
-use Prim.Native.Nat.{_+_, _*_, _≤_}
-use mathlib.Core.Path.{_≡_, refl, sym, _∙_}
-use lib.ListN.{getD, length-set}
+use mathlib.Core.Path.{refl, _∙_}
+use lib.ListN.{length-set}
 use native.Mathlib.Omega.{arith}
-use Rattle.site.specs.Tree.{route}
 use Rattle.site.proofs.Laws.Reservations.{width-le}
 use Rattle.queues.proofs.Laws.Cells.{getD-total}
 use Rattle.simulation.specs.Inner.{inSlot, hopsIn}
