@@ -42,6 +42,28 @@ use Rattle.guarantee.proofs.Laws.Demand.{followed, demand3-any, own-ste
 use Rattle.guarantee.proofs.Laws.Bytes.{plan-parts, plan-without}
 use Rattle.guarantee.proofs.Laws.Reach.{below-none, below-all, below-passes, reach}
 
+-- What the functions promise is a step of a run: these are the equations of their `ensures`, word for word.
+module _ (s : Site) (counters counters′ : List ℕ) (a : Ruling) where
+  pub slot-promised : (t : ℕ) (xs : List ℕ) → (a, counters′) ≡ slotOf own s counters xs t
+      → Promise own (slot t xs) (record { site = s; counters = counters }) a (record { site = s; counters = counters′ })
+  unfolding Promise
+  slot-promised t xs e = (e, refl)
+
+  pub start-promised : (a, counters′) ≡ startOf s counters
+      → Promise own start (record { site = s; counters = counters }) a (record { site = s; counters = counters′ })
+  unfolding Promise
+  start-promised e = (e, refl)
+
+  pub admit-promised : (s′ : Site) (f : Flow) → (a, s′, counters′) ≡ admitOf s counters f
+      → Promise own (admit f) (record { site = s; counters = counters }) a (record { site = s′; counters = counters′ })
+  unfolding Promise
+  admit-promised s′ f e = e
+
+  pub release-promised : (s′ : Site) (n : ℕ) → (a, s′, counters′) ≡ releaseOf s counters n
+      → Promise own (release n) (record { site = s; counters = counters }) a (record { site = s′; counters = counters′ })
+  unfolding Promise
+  release-promised s′ n e = e
+
 -- G is the sum of the periods on the route, the bound that is printed; it is at least 1.
 pub bound-is : (s : Site) (f : ℕ) → boundOf own s f ≡ delayBound s f
 unfolding hopsOf delayBound

@@ -2,10 +2,10 @@
 -- each is accepted, which check refuses it with which place, and what each leaves. The modules named here hold a law for each answer of the code, and the lemmas.
 pub mod Answers
 pub mod Moves
-use Prim.Native.Nat.{ℕ, _+_, _≤_, _<_}
+use Prim.Native.Nat.{ℕ, zero, suc, _+_, _*_, _≤_, _<_}
 use mathlib.Core.Path.{_≡_, refl, sym, _∙_, ap}
 use mathlib.Core.Bool.{Bool, true, false, not, cond, false≢true, _&&_, and-eq-true-iff}
-use mathlib.Core.List.{List}
+use mathlib.Core.List.{List, [], _∷_}
 use mathlib.Core.Logic.{_⊎_, inl, inr, ⊎-elim, _↔_}
 use lib.Dec.{eqb, ltb}
 use lib.ListN.{length, getD}
@@ -18,6 +18,8 @@ use Rattle.pinwheel.proofs.Laws.Outcomes.{past, checked-pass, checked-past, set
 use Rattle.pinwheel.proofs.Laws.Search.{lt-or-le, last-passes, last-above, last-is, first-none, first-found}
 use Rattle.site.specs.declared.Site.{Site}
 use Rattle.site.specs.Sites.{used, ofLink, live}
+use Rattle.site.specs.Reservations.{gapsJudged, routeOf, widthAt}
+use Rattle.schedule.specs.Words.{SendsAt}
 use Rattle.schedule.proofs.Laws.Slots.{sends-in}
 use Rattle.limits.specs.Check.{passesOf, callFault}
 use Rattle.limits.specs.Words.{Sound}
@@ -27,7 +29,9 @@ use Rattle.limits.proofs.Laws.Tests.{not-when}
 use Rattle.counters.specs.Blocks.{cellsOf, zeros}
 use Rattle.counters.proofs.Laws.{length-block, length-joined, block-joined, block-zeros}
 use Rattle.simulation.specs.Sender.{childSends, sendingChild, senderOf}
-use Rattle.simulation.specs.Hops.{Service}
+use Rattle.queues.specs.Cells.{Hop}
+use Rattle.queues.specs.Words.{hopAt}
+use Rattle.simulation.specs.Hops.{Service, own, hopsAlong, hopsOf}
 use Rattle.simulation.specs.Slot.{recounted, overflows, firstOverflow, unexpected, firstUnexpected, slotRuling, cellsAfter, slotOf, startRuling, startOf}
 use Rattle.simulation.specs.Words.{ChildSends, NoneSends, SendingChild, senderChecks, Overflows, Unexpected, Lowest, Playable, slotChecks, startChecks}
 use Rattle.simulation.specs.Inner.{AllMovable}
@@ -109,6 +113,29 @@ sender-first s p t o =
     site-first (SendingChild s p t) o _ _ s
     (λ e. ruled-test (SendingChild s p t) o (ltb (s .links) p) 6 0 _ none _ (ltb-true _ _, lt-ltb _ _)
     (λ _. ruled-end (SendingChild s p t) o (sendingChild s p t) (child-when s e p t _ .0 refl) (λ c w. sym (child-when s e p t c .1 w))))
+
+-- A route has a hop for each of its links, in the same order.
+pub length-along : (hop : ℕ → Hop) (ms : List ℕ) → length (hopsAlong hop ms) ≡ length ms
+unfolding hopsAlong
+length-along hop [] = refl
+length-along hop (m ∷ ms) = ap suc (length-along hop ms)
+
+along-at : (hop : ℕ → Hop) (ms : List ℕ) (k : ℕ) → k < length ms → hopAt (hopsAlong hop ms) k ≡ hop (getD ms k 0)
+unfolding hopsAlong
+along-at hop [] k l = absurd (omega arith)
+along-at hop (m ∷ ms) zero l = refl
+along-at hop (m ∷ ms) (suc k) l = along-at hop ms k (omega arith)
+
+-- By the site's own schedule, hop k of flow n is the link of node m, the route's number k: it sends just when m does, its width is the flow's rate for m's judged gap,
+-- and its gap is m's period.
+pub hop-when : (s : Site) (n k m : ℕ) → k < length (routeOf s n) → getD (routeOf s n) k 0 ≡ m
+    → ((t : ℕ) → (hopAt (hopsOf own s n) k .sends t ≡ true) ↔ SendsAt s m t)
+    × (hopAt (hopsOf own s n) k .width ≡ getD (s .rates) n 0 * ofLink (gapsJudged s) m)
+    × (hopAt (hopsOf own s n) k .gap ≡ ofLink (s .periods) m)
+unfolding hopsOf widthAt
+hop-when s n k m l e =
+    let at : hopAt (hopsOf own s n) k ≡ own s (getD (s .rates) n 0) m = along-at _ (routeOf s n) k l ∙ ap (own s (getD (s .rates) n 0)) e in
+    (λ t. rw at (sends-in s m t), rw at, rw at)
 
 -- The tests of 19 and 20 in words.
 overflows-when : (s : Site) (cs xs : List ℕ) (n : ℕ) → (overflows s cs xs n ≡ true) ↔ Overflows s cs xs n

@@ -1,5 +1,5 @@
 -- Demand 3 for any way of serving the links that the hops of the flow bear out; and the site's own schedule is such a way.
-use Prim.Native.Nat.{ℕ, suc, _+_, _-_, _*_, _≤_, _<_}
+use Prim.Native.Nat.{ℕ, _+_, _-_, _*_, _≤_, _<_}
 use mathlib.Core.Path.{_≡_, refl, sym, _∙_, ap}
 use mathlib.Core.Bool.{true}
 use mathlib.Core.List.{List, [], _∷_}
@@ -24,7 +24,7 @@ use Rattle.admission.specs.Calls.{change, admitOf, releaseOf}
 use Rattle.admission.proofs.Laws.{admits-first, releases-first}
 use Rattle.simulation.specs.Hops.{Service, own, hopsAlong, hopsOf}
 use Rattle.simulation.specs.Slot.{recounted, slotOf, startOf}
-use Rattle.simulation.proofs.Laws.{slots-first, starts-first}
+use Rattle.simulation.proofs.Laws.{length-along, slots-first, starts-first}
 use Rattle.guarantee.specs.Runs.{Call, slot, admit, release, start, State, Promise, checksOf, Log, Run, none, then}
 use Rattle.guarantee.specs.Demand.{entered, slotsOf, Stays, NoStart, rateOf, deadlineOf, boundOf, Begins, Allowed}
 use Rattle.guarantee.specs.Demand.{Answered, WaitsJoined, Waits, Kept}
@@ -163,11 +163,6 @@ module _ (v : Service) (w : Steady v) (f : ℕ) (few : f < 64) (σ₀ : State) (
 pub own-steady : Steady own
 unfolding linkSends gapsJudged
 own-steady = record { same = λ s n state entry rate deadline. refl }
-
-length-along : (hop : ℕ → Hop) (ms : List ℕ) → length (hopsAlong hop ms) ≡ length ms
-unfolding hopsAlong
-length-along hop [] = refl
-length-along hop (m ∷ ms) = ap suc (length-along hop ms)
 
 pub span-along : (s : Site) (rate : ℕ) (ms : List ℕ) → span (hopsAlong (own s rate) ms) ≡ along (s .periods) ms
 unfolding hopsAlong span along
