@@ -153,8 +153,9 @@ module _ (v : Service) (w : Steady v) (f : ℕ) (few : f < 64) (σ₀ : State) (
         cells = e;
         all = rw e (arrivals-kept (hopsOf v (σ₀ .site) f) (slotsOf f l) short);
         delay =
-            rw (e, ← paced-all q (boundOf v (σ₀ .site) f - 1) (slotsOf f l) (d .rated))
-            (delivered-by q (paced q) (paced-curve q) _ (slotsOf f l) some short serve (d .rising));
+            rw e
+            (rw (paced-all q (boundOf v (σ₀ .site) f - 1) (slotsOf f l) (d .rated)) at
+            (delivered-by q (paced q) (paced-curve q) (hopsOf v (σ₀ .site) f) (slotsOf f l) some short serve (d .rising)));
         deadline = within;
         waits = waits-all run d;
       }

@@ -117,11 +117,11 @@ module _ (s : Site) (xs : List ℕ) (n : ℕ) where
 
     pub overflow-yes : 4294967295 < v + x → overflows s cs xs n ≡ true
     unfolding overflows live
-    overflow-yes l = rw (eq-eqb _ _ on, ← summed, ← f, lt-ltb _ _ l)
+    overflow-yes l = rw (eq-eqb _ _ on, ← summed, ← f) (lt-ltb _ _ l)
 
     pub overflow-no : v + x ≤ 4294967295 → overflows s cs xs n ≡ false
     unfolding overflows live
-    overflow-no l = rw (eq-eqb _ _ on, ← summed, ← f, le-ltb _ _ l)
+    overflow-no l = rw (eq-eqb _ _ on, ← summed, ← f) (le-ltb _ _ l)
 
 -- A slot, check by check: `call`, `over` and `stray` are what the callees answer.
 module _ (s : Site) (cs xs : List ℕ) where
