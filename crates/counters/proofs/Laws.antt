@@ -59,7 +59,11 @@ module _ {A : Type 0} where
               ∙ drop-append-add (take (k * n) xs ++ ys) _ _
               ∙ drop-drop _ k (drop (k * n) xs) ∙ drop-drop _ (k * n) xs ∙ ap (λ (i : ℕ). drop i xs) rest))
 
-  -- A part lent from k * n to k * n + k comes back as block n.
+  -- A part lent from k * n to k * n + k is block n, and comes back as block n.
+  pub block-lent : (k n : ℕ) (xs : List A) → take (k * n + k - k * n) (drop (k * n) xs) ≡ block k n xs
+  unfolding block
+  block-lent k n xs = let size : k * n + k - k * n ≡ k = omega arith in rw size
+
   pub block-back : (k n : ℕ) (ys xs : List A) → take (k * n) xs ++ (ys ++ drop (k * n + k - k * n) (drop (k * n) xs)) ≡ withBlock k n ys xs
   unfolding withBlock
   block-back k n ys xs = let size : k * n + k - k * n ≡ k = omega arith in rw size

@@ -10,7 +10,7 @@ use mathlib.Core.Bool.{true}
 use mathlib.Core.List.{List, [], _∷_, _++_, map}
 use lib.ListN.{length, drop}
 use native.Mathlib.Omega.{arith}
-use Rattle.pinwheel.specs.Outcome.{Ruling, accepted, refused}
+use Rattle.pinwheel.specs.Outcome.{Ruling, accepted, refused, Ruled, nothing}
 use Rattle.pinwheel.specs.Search.{total}
 use Rattle.pinwheel.proofs.Laws.Outcomes.{refused-not}
 use Rattle.site.specs.declared.Site.{Site}
@@ -35,8 +35,8 @@ use Rattle.admission.proofs.Laws.{admit-accepted, admit-refused, release-accept
 use Rattle.simulation.specs.Hops.{Service, own, hopsOf}
 use Rattle.simulation.specs.Slot.{recounted, slotOf, startRuling, startOf}
 use Rattle.simulation.proofs.Laws.{slot-accepted, slot-refused, slot-cells, start-accepted, start-refused, start-cells, starts-when}
-use Rattle.guarantee.specs.Runs.{Call, slot, admit, release, start, State, Promise, Log, Run, none, then, admissions}
-use Rattle.guarantee.specs.Demand.{slotsOf, Stays, NoStart, rateOf, boundOf, Begins, Allowed, Kept, newest}
+use Rattle.guarantee.specs.Runs.{Call, slot, admit, release, start, State, Promise, called, checksOf, Log, Run, none, then, admissions}
+use Rattle.guarantee.specs.Demand.{entered, slotsOf, Stays, NoStart, rateOf, boundOf, Begins, Allowed, Answered, Kept, newest}
 use Rattle.guarantee.specs.Words.{Exchanged, bytesBefore, bytesBehind, nodesAlone}
 use Rattle.guarantee.proofs.Laws.Demand.{followed, demand3-any, own-steady, span-along, own-few, own-serves, own-some, own-short}
 use Rattle.guarantee.proofs.Laws.Bytes.{plan-parts, plan-without}
@@ -112,6 +112,20 @@ packet-left f σ₀ l σ run b d newer older a e late n h =
           (omega (arith, rw e at late, newest-is newer a older (rw e at (d .rising)), bound-some (σ₀ .site) (b .passes) f (b .living))),
     )
 
+-- A refused call adds nothing to the premises, whatever it is and whatever it brings.
+pub refused-allowed : (f : ℕ) (s : Site) (c : Call) (n p : ℕ) (l : Log) → Allowed f s l → Allowed f s ((c, refused n p) ∷ l)
+unfolding All slotsOf entered Stays NoStart
+refused-allowed f s (slot t xs) n p l d = record { stays = (tt, d .stays); unbroken = (tt, d .unbroken); rising = d .rising; rated = d .rated }
+refused-allowed f s (admit g) n p l d = record { stays = (tt, d .stays); unbroken = (tt, d .unbroken); rising = d .rising; rated = d .rated }
+refused-allowed f s (release m) n p l d = record { stays = (tt, d .stays); unbroken = (tt, d .unbroken); rising = d .rising; rated = d .rated }
+refused-allowed f s start n p l d = record { stays = (tt, d .stays); unbroken = (tt, d .unbroken); rising = d .rising; rated = d .rated }
+
+-- The newest call of a list was accepted, or refused by its first failing check: so was each, since every list is one with its newest call.
+pub newest-ruled : (f : ℕ) (σ₀ : State) (l : Log) (σ : State) (run : Run own σ₀ l σ) (c : Call) (r : Ruling) (σ′ : State) → Promise own c σ r σ′
+    → Begins f σ₀ → Allowed f (σ₀ .site) ((c, r) ∷ l) → Ruled nothing (checksOf c σ) r
+unfolding Answered
+newest-ruled f σ₀ l σ run c r σ′ p b d = demand3 f σ₀ _ σ′ (then c r σ′ run p) b d .answers .0
+
 -- What an accepted admission leaves is a beginning for the new flow, and what an accepted start leaves is one for every live flow.
 pub admission-begins : (v : Service) (σ σ′ : State) (g : Flow) → Promise v (admit g) σ (accepted tt) σ′ → Begins (g .number) σ′
 unfolding Promise
@@ -135,12 +149,12 @@ start-begins v σ σ′ f on p =
     }
 
 -- Every call has an answer and leaves a state, and so every list of calls, newest first, has a run.
-call-answered : (v : Service) (c : Call) (σ : State) → (a : Ruling) × (σ′ : State) × Promise v c σ a σ′
-unfolding Promise
-call-answered v (slot t xs) σ = let w = slotOf v (σ .site) (σ .counters) xs t in (w .0, record { site = σ .site; counters = w .1 }, (refl, refl))
-call-answered v (admit f) σ = let w = admitOf (σ .site) (σ .counters) f in (w .0, record { site = w .1; counters = w .2 }, refl)
-call-answered v (release n) σ = let w = releaseOf (σ .site) (σ .counters) n in (w .0, record { site = w .1; counters = w .2 }, refl)
-call-answered v start σ = let w = startOf (σ .site) (σ .counters) in (w .0, record { site = σ .site; counters = w .1 }, (refl, refl))
+pub promised : (v : Service) (c : Call) (σ : State) → Promise v c σ (called v c σ .0) (called v c σ .1)
+unfolding Promise called
+promised v (slot t xs) σ = (refl, refl)
+promised v (admit f) σ = refl
+promised v (release n) σ = refl
+promised v start σ = (refl, refl)
 
 pub every-list : (v : Service) (σ₀ : State) (cs : List Call) → (l : Log) × (σ : State) × Run v σ₀ l σ × (map (λ (e : Call × Ruling). e .0) l ≡ cs)
 every-list v σ₀ [] = ([], σ₀, none, refl)
@@ -148,7 +162,7 @@ every-list v σ₀ (c ∷ cs) = go (every-list v σ₀ cs)
   where
     go : (l : Log) × (σ : State) × Run v σ₀ l σ × (map (λ (e : Call × Ruling). e .0) l ≡ cs)
         → (l : Log) × (σ : State) × Run v σ₀ l σ × (map (λ (e : Call × Ruling). e .0) l ≡ c ∷ cs)
-    go (l, σ, r, e) = let w = call-answered v c σ in ((c, w .0) ∷ l, w .1, then c (w .0) (w .1) r (w .2), rw e)
+    go (l, σ, r, e) = ((c, called v c σ .0) ∷ l, called v c σ .1, then c (called v c σ .0) (called v c σ .1) r (promised v c σ), rw e)
 
 -- One call, accepted or refused: a site that passes check 14 passes it afterwards, and 576 counters are 576 still.
 abbrev Keeps : State → State → Type 0

@@ -34,6 +34,13 @@ Promise v (admit f) σ a σ′ = (a, σ′ .site, σ′ .counters) ≡ admitOf (
 Promise v (release n) σ a σ′ = (a, σ′ .site, σ′ .counters) ≡ releaseOf (σ .site) (σ .counters) n
 Promise v start σ a σ′ = ((a, σ′ .counters) ≡ startOf (σ .site) (σ .counters)) × (σ′ .site ≡ σ .site)
 
+-- What a call answers and leaves, by these definitions.
+unfoldable pub called : Service → Call → State → Ruling × State
+called v (slot t xs) σ = let w = slotOf v (σ .site) (σ .counters) xs t in (w .0, record { site = σ .site; counters = w .1 })
+called v (admit f) σ = let w = admitOf (σ .site) (σ .counters) f in (w .0, record { site = w .1; counters = w .2 })
+called v (release n) σ = let w = releaseOf (σ .site) (σ .counters) n in (w .0, record { site = w .1; counters = w .2 })
+called v start σ = let w = startOf (σ .site) (σ .counters) in (w .0, record { site = σ .site; counters = w .1 })
+
 -- The checks of each call in their order, in words.
 unfoldable pub checksOf : Call → State → Checks
 checksOf (slot t xs) σ = slotChecks (σ .site) (σ .counters) xs

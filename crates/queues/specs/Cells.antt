@@ -12,14 +12,14 @@ pub record Hop : Type 0 where
   pub width : ℕ
   pub gap : ℕ
 
--- 01: a sending link moves the smaller of queue and width.
-unfoldable pub moved : Hop → ℕ → ℕ → ℕ
-moved h t queue = cond (h .sends t) (min queue (h .width)) 0
-
 -- 01: arrivals join the first queue.
 unfoldable pub arrived : ℕ → List ℕ → List ℕ
 arrived x [] = []
 arrived x (queue ∷ cells) = (queue + x) ∷ cells
+
+-- 01: a sending link moves the smaller of queue and width.
+unfoldable pub moved : Hop → ℕ → ℕ → ℕ
+moved h t queue = cond (h .sends t) (min queue (h .width)) 0
 
 -- 01: packets join the delivered count, which is the last cell.
 unfoldable pub delivering : ℕ → List ℕ → List ℕ

@@ -13,9 +13,10 @@ use Rattle.counters.specs.Blocks.{cellsOf, zeros}
 use Rattle.queues.specs.Cells.{step}
 use Rattle.simulation.specs.Hops.{Service, hopsOf}
 
--- 01: a refused call leaves the counters as they were, whatever refused it.
-unfoldable pub recounted : Ruling → List ℕ → List ℕ → Ruling × List ℕ
-recounted r new counters = (r, settled r new counters)
+-- 01, One slot: flow n's nine cells after slot t. Those of a number that is not live stay as they are.
+unfoldable pub cellsAfter : Service → Site → List ℕ → List ℕ → ℕ → ℕ → List ℕ
+cellsAfter v s counters arrivals t n =
+    cond (live s n) (step (hopsOf v s n) t (getD arrivals n 0) (cellsOf n counters)) (cellsOf n counters)
 
 -- 01, 19: flow n is live, and its nine cells and its arrival sum to more than 4,294,967,295. The lowest such number, 64 where there is none.
 unfoldable pub overflows : Site → List ℕ → List ℕ → ℕ → Bool
@@ -40,18 +41,17 @@ slotRuling s counters arrivals =
     (cond (ltb (firstUnexpected s arrivals) 64) (refused 20 (firstUnexpected s arrivals))
     (accepted tt))))
 
--- 01: flow n's nine cells after slot t. Those of a number that is not live stay as they are.
-unfoldable pub cellsAfter : Service → Site → List ℕ → List ℕ → ℕ → ℕ → List ℕ
-cellsAfter v s counters arrivals t n =
-    cond (live s n) (step (hopsOf v s n) t (getD arrivals n 0) (cellsOf n counters)) (cellsOf n counters)
+-- 01, the order of a start's checks: 1, 14.
+unfoldable pub startRuling : Site → List ℕ → Ruling
+startRuling s counters = checked (callFault s counters) (accepted tt)
+
+-- 01: a refused call leaves the counters as they were, whatever refused it.
+unfoldable pub recounted : Ruling → List ℕ → List ℕ → Ruling × List ℕ
+recounted r new counters = (r, settled r new counters)
 
 -- 01, One slot: slot t of every flow.
 unfoldable pub slotOf : Service → Site → List ℕ → List ℕ → ℕ → Ruling × List ℕ
 slotOf v s counters arrivals t = recounted (slotRuling s counters arrivals) (joined (cellsAfter v s counters arrivals t) 64 0) counters
-
--- 01, the order of a start's checks: 1, 14.
-unfoldable pub startRuling : Site → List ℕ → Ruling
-startRuling s counters = checked (callFault s counters) (accepted tt)
 
 -- 01: a start sets all 576 counters to 0.
 unfoldable pub startOf : Site → List ℕ → Ruling × List ℕ

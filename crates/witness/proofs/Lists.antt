@@ -1,5 +1,5 @@
 -- The premises of demand 3 hold of a list with every kind of call, so they do not exclude each other; and its bounds are met, so that no smaller ones hold.
-use Prim.Native.Nat.{ℕ, _-_, _*_, _≤_}
+use Prim.Native.Nat.{ℕ, zero, suc, _-_, _*_, _≤_}
 use mathlib.Core.Path.{_≡_, refl}
 use mathlib.Core.List.{List, [], _∷_}
 use lib.ListN.{drop}
@@ -19,28 +19,21 @@ use Rattle.limits.specs.Limits.{badNode, badFlow, nodeLimits, misplaced, flowLi
 use Rattle.limits.specs.Check.{shaped, nodeOf, flowOf, illNode, illFlow, firstIllNode, firstIllFlow, formed, same, accepts, stands, passesOf, callFault}
 use Rattle.counters.specs.Blocks.{block, withBlock, cellsOf, withCells, zeros}
 use Rattle.queues.specs.Cells.{moved, arrived, delivering, passed, step, waiting, delivered, arrivals, span}
-use Rattle.queues.specs.Pace.{All, Rising}
+use Rattle.queues.specs.Pace.{All, Rising, Within}
 use Rattle.admission.specs.Calls.{change, admitRuling, admitOf, releaseRuling, releaseOf}
 use Rattle.simulation.specs.Hops.{own, hopsAlong, hopsOf}
 use Rattle.simulation.specs.Slot.{recounted, overflows, firstOverflow, unexpected, firstUnexpected, slotRuling, cellsAfter, slotOf, startRuling, startOf}
-use Rattle.guarantee.specs.Runs.{Call, slot, admit, release, start, State, Promise, Log, Run, none, then}
+use Rattle.guarantee.specs.Runs.{Call, slot, State, called, Log, Run, none, then}
 use Rattle.guarantee.specs.Demand.{entered, slotsOf, Stays, NoStart, rateOf, boundOf, Begins, Allowed, WaitsJoined, Waits, Kept}
-use Rattle.guarantee.proofs.Laws.{demand3}
+use Rattle.guarantee.proofs.Laws.{demand3, promised}
 use Rattle.marked.specs.Table.{readP}
-use Rattle.witness.specs.Lists.{called, played, stateP, arrivalsP, acceptedFrom, mixed, mixedLog, sixteen, lone}
+use Rattle.witness.specs.Lists.{played, stateP, arrivalsP, acceptedFrom, mixed, admitted, half, mixedLog, sixteen, lone, loneLog}
 
 -- What is played is a run.
-promised : (c : Call) (σ : State) → Promise own c σ (called c σ .0) (called c σ .1)
-unfolding Promise called
-promised (slot t xs) σ = (refl, refl)
-promised (admit f) σ = refl
-promised (release n) σ = refl
-promised start σ = (refl, refl)
-
 pub played-run : (σ₀ : State) (cs : List Call) (l : Log) (σ : State) → Run own σ₀ l σ → Run own σ₀ (played cs l σ .0) (played cs l σ .1)
 unfolding played
 played-run σ₀ [] l σ run = run
-played-run σ₀ (c ∷ cs) l σ run = played-run σ₀ cs _ _ (then c (called c σ .0) (called c σ .1) run (promised c σ))
+played-run σ₀ (c ∷ cs) l σ run = played-run σ₀ cs _ _ (then c (called own c σ .0) (called own c σ .1) run (promised own c σ))
 
 -- What the definitions give, by computing. Where the lists begin, and G = 7.
 pub begins-p : Begins 0 stateP
@@ -58,14 +51,15 @@ pub record MixedPlayed : Type 0 where
 
 -- The lone packet of slot 10: not delivered after slot 15, and delivered after slot 16.
 pub record LonePlayed : Type 0 where
-  pub log : played (lone 5) [] stateP .0 ≡ acceptedFrom 5 11 (arrivalsP 0 0) (acceptedFrom 1 10 (arrivalsP 1 0) [])
+  pub log : played (lone 5) [] stateP .0 ≡ loneLog 5
+  pub later : played (lone 6) [] stateP .0 ≡ loneLog 6
   pub waits : delivered (cellsOf 0 (played (lone 5) [] stateP .1 .counters)) ≡ 0
   pub leaves : delivered (cellsOf 0 (played (lone 6) [] stateP .1 .counters)) ≡ 1
 
 -- After the slots 0 to 15 slot 16 is accepted too, and when its three arrivals have joined, 21 = rate × G packets wait.
 pub record SixteenPlayed : Type 0 where
   pub log : played sixteen [] stateP .0 ≡ acceptedFrom 16 0 (arrivalsP 3 0) []
-  pub next : called (slot 16 (arrivalsP 3 0)) (played sixteen [] stateP .1) .0 ≡ accepted tt
+  pub next : called own (slot 16 (arrivalsP 3 0)) (played sixteen [] stateP .1) .0 ≡ accepted tt
   pub wait : waiting (arrived 3 (cellsOf 0 (played sixteen [] stateP .1 .counters))) ≡ 21
 
 pub mixed-played : MixedPlayed
@@ -74,21 +68,28 @@ mixed-played = record { log = refl; cells = refl }
 
 pub lone-played : LonePlayed
 unfolding called played stateP moved arrived delivering passed step hopsAlong hopsOf cellsOf linkSends recounted overflows firstOverflow unexpected firstUnexpected slotRuling cellsAfter slotOf startRuling startOf checked settled block withBlock withCells zeros unfit firstUnfit callFault change admitRuling admitOf releaseRuling releaseOf last first any total largest least smallest exponent period sum limit fits base periodsOf sends earlier taken freeOffset turn level levels offsetsFor offsetsOf badGap firstBad dealt ofLink live withFlow withoutFlow withSchedule up depthIn depthOf climb route has used gapsFrom gapsUnder rank dealtUnder baseOf baseUnder crowded firstCrowded entryDealt listed offsetsDealt periodsDealt scheduled gapsJudged routeOf widthAt widthOn sumTo load over firstOver along late firstLate reserved judgeOf badNode badFlow nodeLimits misplaced flowLimits joined shaped nodeOf flowOf illNode illFlow firstIllNode firstIllFlow formed same accepts stands passesOf delivered
-lone-played = record { log = refl; waits = refl; leaves = refl }
+lone-played = record { log = refl; later = refl; waits = refl; leaves = refl }
 
 pub sixteen-played : SixteenPlayed
 unfolding called played stateP moved arrived delivering passed step hopsAlong hopsOf cellsOf linkSends recounted overflows firstOverflow unexpected firstUnexpected slotRuling cellsAfter slotOf startRuling startOf checked settled block withBlock withCells zeros unfit firstUnfit callFault change admitRuling admitOf releaseRuling releaseOf last first any total largest least smallest exponent period sum limit fits base periodsOf sends earlier taken freeOffset turn level levels offsetsFor offsetsOf badGap firstBad dealt ofLink live withFlow withoutFlow withSchedule up depthIn depthOf climb route has used gapsFrom gapsUnder rank dealtUnder baseOf baseUnder crowded firstCrowded entryDealt listed offsetsDealt periodsDealt scheduled gapsJudged routeOf widthAt widthOn sumTo load over firstOver along late firstLate reserved judgeOf badNode badFlow nodeLimits misplaced flowLimits joined shaped nodeOf flowOf illNode illFlow firstIllNode firstIllFlow formed same accepts stands passesOf waiting
 sixteen-played = record { log = refl; next = refl; wait = refl }
 
+-- Flow 0 stays admitted and no rehearsal starts anew in this log; and so in one with accepted slots on top.
+abbrev Calm : Log → Type 0
+Calm l = All (Stays 0) l × All NoStart l
+
+calm-slots : (n t : ℕ) (xs : List ℕ) (l : Log) → Calm l → Calm (acceptedFrom n t xs l)
+unfolding All Stays NoStart
+calm-slots zero t xs l w = w
+calm-slots (suc n) t xs l w = let more = calm-slots n t xs l w in ((tt, more .0), (tt, more .1))
+
 -- All premises hold of the mixed list ..
 mixed-allowed : Allowed 0 readP mixedLog
 unfolding All Rising slotsOf entered Stays NoStart
-mixed-allowed = record {
-  stays = (λ e. omega arith, (tt, (tt, (tt, (tt, (tt, (tt, (tt, (tt, (tt, (tt, (tt, (tt, (tt, (tt, (tt, (tt, (tt, (tt, (tt, (tt, tt)))))))))))))))))))));
-  unbroken = (tt, (tt, (tt, (tt, (tt, (tt, (tt, (tt, (tt, (tt, (tt, (tt, (tt, (tt, (tt, (tt, (tt, (tt, (tt, (tt, (tt, tt)))))))))))))))))))));
-  rising = omega arith;
-  rated = omega arith;
-}
+mixed-allowed =
+    let early = calm-slots 9 0 (arrivalsP 3 40) admitted ((tt, (tt, tt)), (tt, (tt, tt))) in
+    let late = calm-slots 8 9 (arrivalsP 3 0) half ((tt, early .0), (tt, early .1)) in
+    record { stays = (λ e. omega arith, late .0); unbroken = (tt, late .1); rising = omega arith; rated = omega arith }
 
 -- .. and so all of demand 3. Of 51 arrivals it asks for 33 delivered, and 42 are.
 pub mixed-kept : Kept own 0 stateP (played mixed [] stateP .0) (played mixed [] stateP .1) (played-run stateP mixed [] stateP none)
@@ -99,39 +100,49 @@ pub mixed-asked : total (drop (boundOf own readP 0 - 1) (arrivals (slotsOf 0 mix
 unfolding total slotsOf entered arrivals
 mixed-asked = rw bound-p
 
-lone-allowed : Allowed 0 readP (acceptedFrom 5 11 (arrivalsP 0 0) (acceptedFrom 1 10 (arrivalsP 1 0) []))
-unfolding All Rising slotsOf entered Stays NoStart
-lone-allowed = record {
-  stays = (tt, (tt, (tt, (tt, (tt, (tt, tt))))));
-  unbroken = (tt, (tt, (tt, (tt, (tt, (tt, tt))))));
-  rising = omega arith;
-  rated = omega arith;
-}
+lone-allowed : (n : ℕ) → Rising (slotsOf 0 (loneLog n)) → Within 3 (slotsOf 0 (loneLog n)) → Allowed 0 readP (loneLog n)
+unfolding All
+lone-allowed n r w =
+    let calm = calm-slots n 11 (arrivalsP 0 0) _ (calm-slots 1 10 (arrivalsP 1 0) [] (tt, tt)) in
+    record { stays = calm .0; unbroken = calm .1; rising = r; rated = w }
+
+-- Demand 3 itself says that the lone packet has left after slot 16: its claim is no weaker than 01's.
+pub lone-claimed : 1 ≤ delivered (cellsOf 0 (played (lone 6) [] stateP .1 .counters))
+unfolding stateP total slotsOf entered arrivals All Rising
+lone-claimed =
+    let kept = demand3 0 stateP _ _ (played-run stateP (lone 6) [] stateP none) begins-p (rw (lone-played .later) (lone-allowed 6 (omega arith) (omega arith))) in
+    omega (arith, rw (lone-played .later, bound-p) at (kept .delay))
 
 -- Because of the lone packet it is false that the arrivals of all accepted slots but the last G - 2 are always delivered.
 pub delay-tight : ((f : ℕ) (σ₀ : State) (l : Log) (σ : State) → Run own σ₀ l σ → Begins f σ₀ → Allowed f (σ₀ .site) l
     → total (drop (boundOf own (σ₀ .site) f - 2) (arrivals (slotsOf f l))) ≤ delivered (cellsOf f (σ .counters))) → ⊥
-unfolding stateP total slotsOf entered arrivals
+unfolding stateP total slotsOf entered arrivals All Rising
 delay-tight claim =
-    let w = claim 0 stateP _ _ (played-run stateP (lone 5) [] stateP none) begins-p (rw (lone-played .log) lone-allowed) in
+    let w = claim 0 stateP _ _ (played-run stateP (lone 5) [] stateP none) begins-p (rw (lone-played .log) (lone-allowed 5 (omega arith) (omega arith))) in
     omega (arith, rw (lone-played .log, lone-played .waits, bound-p) at w)
 
 seventeen-allowed : Allowed 0 readP (acceptedFrom 17 0 (arrivalsP 3 0) [])
-unfolding All Rising slotsOf entered Stays NoStart
-seventeen-allowed = record {
-  stays = (tt, (tt, (tt, (tt, (tt, (tt, (tt, (tt, (tt, (tt, (tt, (tt, (tt, (tt, (tt, (tt, (tt, tt)))))))))))))))));
-  unbroken = (tt, (tt, (tt, (tt, (tt, (tt, (tt, (tt, (tt, (tt, (tt, (tt, (tt, (tt, (tt, (tt, (tt, tt)))))))))))))))));
-  rising = omega arith;
-  rated = omega arith;
-}
+unfolding All Rising slotsOf entered
+seventeen-allowed =
+    let calm = calm-slots 17 0 (arrivalsP 3 0) [] (tt, tt) in record { stays = calm .0; unbroken = calm .1; rising = omega arith; rated = omega arith }
+
+-- The seventeen slots, as a run whose newest call is slot 16.
+seventeen : Run own stateP ((slot 16 (arrivalsP 3 0), accepted tt) ∷ played sixteen [] stateP .0) (called own (slot 16 (arrivalsP 3 0)) (played sixteen [] stateP .1) .1)
+seventeen =
+    let c = slot 16 (arrivalsP 3 0) in
+    then c (accepted tt) _ (played-run stateP sixteen [] stateP none) (rw (sixteen-played .next) at (promised own c (played sixteen [] stateP .1)))
+
+-- Demand 3 itself says that at most 21 wait in slot 16: its claim is no weaker than 01's.
+pub sixteen-claimed : waiting (arrived 3 (cellsOf 0 (played sixteen [] stateP .1 .counters))) ≤ 21
+unfolding stateP Waits WaitsJoined seventeen
+sixteen-claimed =
+    let kept = demand3 0 stateP _ _ seventeen begins-p (rw (sixteen-played .log) seventeen-allowed) in
+    omega (arith, rw bound-p at (kept .waits .1))
 
 -- Because of the 21 packets it is false that at most rate × (G - 1) wait at every moment.
 pub waiting-tight : ((f : ℕ) (σ₀ : State) (l : Log) (σ : State) (run : Run own σ₀ l σ) → Begins f σ₀ → Allowed f (σ₀ .site) l
     → Waits f (rateOf (σ₀ .site) f * (boundOf own (σ₀ .site) f - 1)) run) → ⊥
-unfolding stateP Waits WaitsJoined
+unfolding stateP Waits WaitsJoined seventeen
 waiting-tight claim =
-    let c = slot 16 (arrivalsP 3 0) in
-    let before = played-run stateP sixteen [] stateP none in
-    let made = rw (sixteen-played .next) at (promised c (played sixteen [] stateP .1)) in
-    let w = claim 0 stateP _ _ (then c (accepted tt) _ before made) begins-p (rw (sixteen-played .log) seventeen-allowed) in
+    let w = claim 0 stateP _ _ seventeen begins-p (rw (sixteen-played .log) seventeen-allowed) in
     omega (arith, sixteen-played .wait, rw bound-p at (w .1))

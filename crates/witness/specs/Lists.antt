@@ -2,25 +2,16 @@
 use Prim.Native.Nat.{ℕ, zero, suc, _+_}
 use mathlib.Core.List.{List, [], _∷_, _++_}
 use lib.ListN.{replicate}
-use Rattle.pinwheel.specs.Outcome.{Ruling, accepted, refused}
+use Rattle.pinwheel.specs.Outcome.{accepted, refused}
 use Rattle.site.specs.declared.Flow.{Flow}
-use Rattle.admission.specs.Calls.{admitOf, releaseOf}
 use Rattle.simulation.specs.Hops.{own}
-use Rattle.simulation.specs.Slot.{slotOf, startOf}
-use Rattle.guarantee.specs.Runs.{Call, slot, admit, release, start, State, Log}
+use Rattle.guarantee.specs.Runs.{Call, slot, admit, release, State, called, Log}
 use Rattle.marked.specs.Table.{readP, counters}
-
--- What a call answers and leaves.
-unfoldable pub called : Call → State → Ruling × State
-called (slot t xs) σ = let w = slotOf own (σ .site) (σ .counters) xs t in (w .0, record { site = σ .site; counters = w .1 })
-called (admit f) σ = let w = admitOf (σ .site) (σ .counters) f in (w .0, record { site = w .1; counters = w .2 })
-called (release n) σ = let w = releaseOf (σ .site) (σ .counters) n in (w .0, record { site = w .1; counters = w .2 })
-called start σ = let w = startOf (σ .site) (σ .counters) in (w .0, record { site = σ .site; counters = w .1 })
 
 -- The log and the state after these calls, from a log and a state.
 unfoldable pub played : List Call → Log → State → Log × State
 played [] l σ = (l, σ)
-played (c ∷ cs) l σ = played cs ((c, called c σ .0) ∷ l) (called c σ .1)
+played (c ∷ cs) l σ = played cs ((c, called own c σ .0) ∷ l) (called own c σ .1)
 
 -- Plan P as it is read. The cells of flow 0 are 0, all others are not.
 unfoldable pub stateP : State
@@ -49,10 +40,15 @@ mixed =
     admit flowFive ∷ admit flowFive
     ∷ (slotsFrom 9 0 (arrivalsP 3 40) ++ (slot 77 (replicate 63 9) ∷ (slotsFrom 8 9 (arrivalsP 3 0) ++ (release 5 ∷ []))))
 
+-- Its log: the admissions; these, nine slots and the refused one; and all of it.
+abbrev pub admitted : Log
+admitted = (admit flowFive, refused 15 5) ∷ (admit flowFive, accepted tt) ∷ []
+
+abbrev pub half : Log
+half = (slot 77 (replicate 63 9), refused 1 0) ∷ acceptedFrom 9 0 (arrivalsP 3 40) admitted
+
 abbrev pub mixedLog : Log
-mixedLog =
-    (release 5, accepted tt)
-    ∷ acceptedFrom 8 9 (arrivalsP 3 0) ((slot 77 (replicate 63 9), refused 1 0) ∷ acceptedFrom 9 0 (arrivalsP 3 40) ((admit flowFive, refused 15 5) ∷ (admit flowFive, accepted tt) ∷ []))
+mixedLog = (release 5, accepted tt) ∷ acceptedFrom 8 9 (arrivalsP 3 0) half
 
 -- The slots 0 to 15 with three arrivals each.
 abbrev pub sixteen : List Call
@@ -61,3 +57,6 @@ sixteen = slotsFrom 16 0 (arrivalsP 3 0)
 -- A lone packet in slot 10, and n slots after it.
 abbrev pub lone : ℕ → List Call
 lone n = slot 10 (arrivalsP 1 0) ∷ slotsFrom n 11 (arrivalsP 0 0)
+
+abbrev pub loneLog : ℕ → Log
+loneLog n = acceptedFrom n 11 (arrivalsP 0 0) (acceptedFrom 1 10 (arrivalsP 1 0) [])

@@ -3,10 +3,8 @@ use Prim.Native.Nat.{ℕ, _+_, _-_, _*_, _≤_, _<_}
 use mathlib.Core.Path.{_≡_, sym, _∙_}
 use mathlib.Core.Bool.{Bool, true, false, not}
 use mathlib.Core.List.{List, _++_}
-use lib.ListN.{length, take, drop, length-drop}
-use lib.Seq.{length-take-le}
+use lib.ListN.{length, take, drop}
 use borrow.Author.Tests.{lt-ltb, le-ltb, le-leb, lt-leb, eq-eqb, ne-eqb}
-use native.Mathlib.Omega.{arith}
 use Rattle.pinwheel.specs.Outcome.{Ruling, accepted, refused, settled}
 use Rattle.pinwheel.proofs.Laws.Outcomes.{checked-pass, checked-fail}
 use Rattle.site.specs.declared.Site.{Site}
@@ -20,7 +18,7 @@ use Rattle.schedule.specs.Judge.{ruling}
 use Rattle.limits.specs.Limits.{flowLimits}
 use Rattle.limits.specs.Check.{callFault}
 use Rattle.counters.specs.Blocks.{withCells, zeros}
-use Rattle.counters.proofs.Laws.{block-back}
+use Rattle.counters.proofs.Laws.{length-block, block-lent, block-back}
 use Rattle.admission.specs.Calls.{change, unfitLink, admitRuling, releaseRuling}
 use Rattle.admission.specs.Inner.{cleared}
 
@@ -82,9 +80,7 @@ pub cells-cleared : (n : ℕ) (ys cs : List ℕ) → 9 * n + 9 ≤ length cs →
     → take (9 * n) cs ++ (ys ++ drop (9 * n + 9 - 9 * n) (drop (9 * n) cs)) ≡ withCells n (zeros 9) cs
 unfolding withCells
 cells-cleared n ys cs fits e =
-    let nine : 9 * n + 9 - 9 * n ≡ 9 = omega arith in
-    let long : length (take 9 (drop (9 * n) cs)) ≡ 9 = length-take-le 9 (drop (9 * n) cs) (simp length-drop (omega arith)) in
-    block-back 9 n ys cs ∙ rw (e, nine, long)
+    block-back 9 n ys cs ∙ rw (e, block-lent 9 n cs, length-block 9 n cs fits)
 
 -- What becomes of the counters by the verdict.
 module _ (v : Verdict) (n : ℕ) (cs : List ℕ) where

@@ -21,7 +21,8 @@ use Rattle.schedule.specs.declared.Verdict.{Verdict}
 use Rattle.schedule.specs.declared.Verdict.the-variants.{Accepted, Refused}
 use Rattle.schedule.specs.Judge.{ruling}
 use Rattle.limits.specs.Check.{passesOf, callFault}
-use Rattle.counters.specs.Blocks.{block, cellsOf, zeros}
+use Rattle.counters.specs.Blocks.{cellsOf, zeros}
+use Rattle.counters.proofs.Laws.{block-lent}
 use Rattle.simulation.specs.Sender.{childSends, sendingChild, senderOf}
 use Rattle.simulation.specs.Slot.{overflows, firstOverflow, unexpected, firstUnexpected, slotRuling, recounted, startRuling, startOf}
 
@@ -112,8 +113,8 @@ module _ (s : Site) (xs : List ℕ) (n : ℕ) where
 
   module _ (cs : List ℕ) (on : getD (s .states) n 0 ≡ 1) (v x : ℕ) (e : v ≡ total (take (9 * n + 9 - 9 * n) (drop (9 * n) cs))) (f : x ≡ getD xs n 0) where
     summed : v ≡ total (cellsOf n cs)
-    unfolding cellsOf block
-    summed = let size : 9 * n + 9 - 9 * n ≡ 9 = omega arith in rw size at e
+    unfolding cellsOf
+    summed = rw (block-lent 9 n cs) at e
 
     pub overflow-yes : 4294967295 < v + x → overflows s cs xs n ≡ true
     unfolding overflows live

@@ -22,7 +22,7 @@ use Rattle.site.specs.Reservations.{gapsJudged, routeOf, widthAt}
 use Rattle.site.proofs.Laws.Tree.{route-up, route-end}
 use Rattle.schedule.specs.Schedule.{linkSends}
 use Rattle.counters.specs.Blocks.{block, cellsOf}
-use Rattle.counters.proofs.Laws.{length-block, length-joined}
+use Rattle.counters.proofs.Laws.{length-block, length-joined, block-lent}
 use Rattle.queues.specs.Cells.{Hop, moved, arrived, delivering, passed, step}
 use Rattle.queues.proofs.Laws.Cells.{moved-most, getD-total, total-set, length-step}
 use Rattle.simulation.specs.Hops.{Service, own, hopsAlong, hopsOf}
@@ -239,7 +239,7 @@ module _ (s : Site) (t : ℕ) (cs₀ xs : List ℕ) (m : AllMovable s cs₀ xs) 
     -- What is lent on is flow n's cells of the start.
     pub cells-lent : take (9 * n + 9 - 9 * n) (drop (9 * n) cs) ≡ cellsOf n cs₀
     unfolding cellsOf block
-    cells-lent = let size : 9 * n + 9 - 9 * n ≡ 9 = omega arith in rw (size, behind)
+    cells-lent = block-lent 9 n cs ∙ rw behind
 
     stored : (ys : List ℕ) → ys ≡ cellsAfter own s cs₀ xs t n
         → take (9 * n) cs ++ (ys ++ drop (9 * n + 9 - 9 * n) (drop (9 * n) cs)) ≡ joined (cellsAfter own s cs₀ xs t) (n + 1) 0 ++ drop (9 * (n + 1)) cs₀
