@@ -10,9 +10,9 @@ ghost use Prim.Native.Nat.{_<_};
 ghost use Rattle.limits.specs.Check.{illNode, illFlow, firstIllNode, firstIllFlow, same, stands, passesOf, callFault};
 
 // The node at index i of a site with so many links is not within its limits or, past the last link, not all 0.
-fn ill_node(links: u8, parents: [u8; 63], i: usize, node: Node) -> bool
+fn ill_node(links: u8, parents: &[u8], i: usize, node: Node) -> bool
     requires { ⌜ i < 63 ⌝ }
-    ensures { λ r. ⌜ r ≡ illNode links parents i node ⌝ }
+    ensures { λ r. ⌜ r ≡ illNode links (now (parents .entry)) i node ⌝ }
 {
     if i < links as usize {
         return node_limits(parents, i as u8, node) != 0;
@@ -50,7 +50,6 @@ fn first_ill_node(site: Site) -> usize
     ensures { λ r. ⌜ r ≡ firstIllNode site ⌝ }
 {
     let links = site.links;
-    let parents = site.parents;
     let mut i = 0;
     while i < 63 {
         let node = Node {
@@ -58,7 +57,7 @@ fn first_ill_node(site: Site) -> usize
             capacity: site.capacities[i],
             gap: site.gaps[i],
         };
-        if ill_node(links, parents, i, node) {
+        if ill_node(links, &site.parents, i, node) {
             return i;
         }
         i += 1;

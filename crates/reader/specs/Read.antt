@@ -10,10 +10,14 @@ use Rattle.site.specs.declared.Flow.{Flow}
 use Rattle.site.specs.Sites.{emptySite, withFlow}
 use Rattle.schedule.specs.Judge.{judgeOf}
 use Rattle.limits.specs.declared.Node.{Node}
-use Rattle.reader.specs.declared.Draft.{Draft}
 use Rattle.limits.specs.Limits.{nodeLimits, flowLimits}
 use Rattle.format.specs.Bytes.{numberAt}
 use Rattle.format.specs.Commands.{sizeOf}
+
+-- What has been read: nodes and flows, and the smallest number that a FLOW may still have, 0 before the first.
+pub record Draft : Type 0 where
+  pub site : Site
+  pub next : ℕ
 
 -- 01, command 01, NODE, at index `at`: a byte for the parent, two for the capacity, two for the wanted gap.
 unfoldable pub nodeAt : List ℕ → ℕ → Node

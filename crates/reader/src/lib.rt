@@ -8,54 +8,20 @@ ghost use mathlib.Core.Path.{_≡_};
 ghost use Prim.Native.Nat.{_+_, _<_};
 ghost use lib.ListN.{length};
 ghost use Rattle.schedule.specs.Judge.{ruling, withSite};
-ghost use Rattle.reader.specs.Read.{nodeAt, flowAt, nodeFault, nodeAdded, flowAdded};
-ghost use Rattle.reader.specs.Read.{fault, after, endOf, decode, readOf};
-
-// What has been read: nodes and flows, and the smallest number that a FLOW may still have, 0 before the first.
-pub struct Draft {
-    pub site: Site,
-    pub next: u8,
-}
+ghost use Rattle.reader.specs.Read.{Draft, nodeAt, flowAt, nodeFault, fault, endOf, decode, readOf};
+ghost use Rattle.reader.specs.Inner.{Known};
 
 // 4 and 7 for a NODE, then 5, 6 and 8.
-fn node_fault(draft: Draft, node: Node) -> u8
-    ensures { λ r. ⌜ r ≡ nodeFault draft node ⌝ }
+fn node_fault(links: u8, next: u8, parents: &[u8], node: Node) -> u8
+    ensures { λ r. ⌜ ((d : Draft) → Known d links next (now (parents .entry)) → r ≡ nodeFault d node) ⌝ }
 {
-    if 0 < draft.next {
+    if 0 < next {
         return 4;
     }
-    let site = draft.site;
-    if 63 <= site.links {
+    if 63 <= links {
         return 7;
     }
-    let parents = site.parents;
-    limits::node_limits(parents, site.links, node)
-}
-
-fn add_node(draft: Draft, node: Node) -> Draft
-    requires { ⌜ draft .site .links < 63 ⌝ }
-    ensures { λ r. ⌜ r ≡ nodeAdded draft node ⌝ }
-{
-    let mut site = draft.site;
-    let i = site.links as usize;
-    site.parents[i] = node.parent;
-    site.capacities[i] = node.capacity;
-    site.gaps[i] = node.gap;
-    site.links += 1;
-    Draft {
-        site,
-        next: draft.next,
-    }
-}
-
-fn add_flow(draft: Draft, flow: Flow) -> Draft
-    requires { ⌜ flow .number < 64 ⌝ }
-    ensures { λ r. ⌜ r ≡ flowAdded draft flow ⌝ }
-{
-    Draft {
-        site: site::with_flow(draft.site, flow),
-        next: flow.number + 1,
-    }
+    limits::node_limits(parents, links, node)
 }
 
 // The operands of the NODE at index `at`.
@@ -84,9 +50,9 @@ fn flow_at(bytes: &[u8], at: usize) -> Flow
 }
 
 // The first check that the command at index `at` fails, 0 where it fails none. It is not END.
-fn fault_at(bytes: &[u8], at: usize, draft: Draft) -> u8
+fn fault_at<'a>(bytes: &'a [u8], at: usize, links: u8, next: u8, parents: &'a [u8]) -> u8
     requires { ⌜ at < length (now bytes) ⌝ }
-    ensures { λ r. ⌜ r ≡ fault (now (bytes .entry)) at draft ⌝ }
+    ensures { λ r. ⌜ ((d : Draft) → Known d links next (now (parents .entry)) → r ≡ fault (now (bytes .entry)) at d) ⌝ }
 {
     let tag = bytes[at];
     let size = format::size(tag);
@@ -98,21 +64,9 @@ fn fault_at(bytes: &[u8], at: usize, draft: Draft) -> u8
         return 2;
     }
     if tag == 1 {
-        return node_fault(draft, node_at(bytes, at));
+        return node_fault(links, next, parents, node_at(bytes, at));
     }
-    let site = draft.site;
-    limits::flow_limits(site.links, draft.next, flow_at(bytes, at))
-}
-
-// What has been read with the command at index `at`, which fails no check.
-fn after_command(bytes: &[u8], at: usize, draft: Draft) -> Draft
-    requires { ⌜ fault (now bytes) at draft ≡ 0 ⌝ }
-    ensures { λ r. ⌜ r ≡ after (now (bytes .entry)) at draft ⌝ }
-{
-    if bytes[at] == 1 {
-        return add_node(draft, node_at(bytes, at));
-    }
-    add_flow(draft, flow_at(bytes, at))
+    limits::flow_limits(links, next, flow_at(bytes, at))
 }
 
 // END at index `at`.
@@ -132,24 +86,37 @@ fn end(size: usize, at: usize, site: Site) -> Judged
     }
 }
 
-// The nodes and flows that the bytes have, or the refusal of their form.
+// The nodes and flows that the bytes have, or the refusal of their form. `next` is the smallest number that a FLOW may still have, 0 before the first.
 fn decoded(bytes: &[u8]) -> Judged
     ensures { λ r. ⌜ (ruling (r .verdict), r .site) ≡ withSite (decode (now (bytes .entry))) ⌝ }
 {
-    let mut draft = Draft {
-        site: site::empty(),
-        next: 0,
-    };
+    let mut site = site::empty();
+    let mut next: u8 = 0;
     let mut at = 0;
     while at < bytes.len() {
         if bytes[at] == 255 {
-            return end(bytes.len(), at, draft.site);
+            return end(bytes.len(), at, site);
         }
-        let fault = fault_at(bytes, at, draft);
+        let fault = fault_at(bytes, at, site.links, next, &site.parents);
         if fault != 0 {
             return schedule::refusal(fault, at);
         }
-        draft = after_command(bytes, at, draft);
+        if bytes[at] == 1 {
+            let node = node_at(bytes, at);
+            let i = site.links as usize;
+            site.parents[i] = node.parent;
+            site.capacities[i] = node.capacity;
+            site.gaps[i] = node.gap;
+            site.links += 1;
+        } else {
+            let flow = flow_at(bytes, at);
+            let n = flow.number as usize;
+            site.states[n] = 1;
+            site.entries[n] = flow.entry;
+            site.rates[n] = flow.rate;
+            site.deadlines[n] = flow.deadline;
+            next = flow.number + 1;
+        }
         at += format::size(bytes[at]);
     }
     schedule::refusal(2, bytes.len())

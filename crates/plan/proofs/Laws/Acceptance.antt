@@ -22,8 +22,7 @@ use Rattle.limits.specs.Limits.{badNode, badFlow, misplaced, nodeLimits, flowLi
 use Rattle.limits.specs.Words.{Formed}
 use Rattle.format.specs.Commands.{sizeOf}
 use Rattle.format.specs.Words.{Bytes}
-use Rattle.reader.specs.declared.Draft.{Draft}
-use Rattle.reader.specs.Read.{nodeAt, flowAt, nodeFault, flowFault, fault, endOf, decode, judgeForm, readOf}
+use Rattle.reader.specs.Read.{Draft, nodeAt, flowAt, nodeFault, flowFault, fault, endOf, decode, judgeForm, readOf}
 use Rattle.reader.proofs.Laws.Decode.{decode-out, decode-end, decode-stop}
 use Rattle.writer.specs.Write.{nodeBytes, flowBytes, flowIfLive, commandBytes, planBytes}
 use Rattle.plan.specs.Words.{InForm}

@@ -18,8 +18,7 @@ use Rattle.limits.specs.declared.Node.{Node}
 use Rattle.limits.specs.Check.{shaped, nodeOf, flowOf, illNode, illFlow, firstIllNode, firstIllFlow, formed}
 use Rattle.limits.specs.Words.{Shape, NodeGood, IdleAt, Formed, Unscheduled}
 use Rattle.limits.proofs.Laws.Forms.{formed-when, linkless-idle, good-same, good-wider, flow-good, flow-new, flow-old, flow-formed}
-use Rattle.reader.specs.declared.Draft.{Draft}
-use Rattle.reader.specs.Read.{nodeFault, flowFault, withNode, nodeAdded, flowAdded, blank}
+use Rattle.reader.specs.Read.{Draft, nodeFault, flowFault, withNode, nodeAdded, flowAdded, blank}
 use Rattle.reader.proofs.Laws.Commands.{node-passed}
 
 -- `next` is one above the highest number of a live flow, and 0 where no flow is live.

@@ -18,8 +18,7 @@ use Rattle.limits.proofs.Laws.Tests.{fails-when}
 use Rattle.limits.proofs.Laws.Forms.{node-within, flow-within}
 use Rattle.format.specs.Commands.{sizeOf}
 use Rattle.format.proofs.Laws.{size-node, size-flow, size-none, size-kinds}
-use Rattle.reader.specs.declared.Draft.{Draft}
-use Rattle.reader.specs.Read.{nodeAt, flowAt, nodeFault, flowFault, fault}
+use Rattle.reader.specs.Read.{Draft, nodeAt, flowAt, nodeFault, flowFault, fault}
 use Rattle.plan.specs.Words.{Checks, none, check, FirstOf, IsNode, IsFlow, laterChecks, commandChecks}
 use Rattle.plan.proofs.Laws.Drafts.{NextOf}
 

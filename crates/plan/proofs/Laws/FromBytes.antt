@@ -19,8 +19,7 @@ use Rattle.format.specs.Bytes.{numberAt, bytesOf}
 use Rattle.format.specs.Commands.{sizeOf}
 use Rattle.format.specs.Words.{Bytes}
 use Rattle.format.proofs.Laws.{bytes-number, number-one}
-use Rattle.reader.specs.declared.Draft.{Draft}
-use Rattle.reader.specs.Read.{nodeAt, flowAt, flowFault, withNode, nodeAdded, flowAdded, fault, after, decode, blank}
+use Rattle.reader.specs.Read.{Draft, nodeAt, flowAt, flowFault, withNode, nodeAdded, flowAdded, fault, after, decode, blank}
 use Rattle.reader.proofs.Laws.Commands.{node-passed}
 use Rattle.reader.proofs.Laws.Decode.{decodeOn, decode-start, decode-go, fault-none, NodePasses, FlowPasses}
 use Rattle.writer.specs.Write.{nodeBytes, flowBytes, flowIfLive, commandBytes}

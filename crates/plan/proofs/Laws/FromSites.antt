@@ -14,9 +14,8 @@ use Rattle.site.specs.declared.Site.{Site}
 use Rattle.site.specs.Sites.{emptySite, live, withFlow, withSchedule}
 use Rattle.site.specs.Tree.{up}
 use Rattle.site.proofs.Laws.Tree.{up-in}
-use Rattle.reader.specs.declared.Draft.{Draft}
 use Rattle.format.specs.Bytes.{numberAt, bytesOf}
-use Rattle.reader.specs.Read.{nodeAt, flowAt, nodeFault, flowFault, withNode, nodeAdded, flowAdded, decode}
+use Rattle.reader.specs.Read.{Draft, nodeAt, flowAt, nodeFault, flowFault, withNode, nodeAdded, flowAdded, decode}
 use Rattle.limits.specs.Check.{nodeOf, flowOf}
 use Rattle.writer.specs.Write.{nodeBytes, flowBytes, flowIfLive, commandBytes}
 use Rattle.pinwheel.specs.Search.{joined}

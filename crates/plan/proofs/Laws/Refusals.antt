@@ -12,8 +12,7 @@ use Rattle.site.specs.declared.Site.{Site}
 use Rattle.site.specs.Sites.{withSchedule}
 use Rattle.limits.specs.Words.{Unscheduled}
 use Rattle.format.specs.Words.{Bytes}
-use Rattle.reader.specs.declared.Draft.{Draft}
-use Rattle.reader.specs.Read.{fault, endOf, decode}
+use Rattle.reader.specs.Read.{Draft, fault, endOf, decode}
 use Rattle.reader.proofs.Laws.Decode.{decodeOn, decode-out, decode-end, decode-stop}
 use Rattle.plan.specs.Words.{Begun, FormFails, no-end, command, bare-end, more}
 use Rattle.plan.proofs.Laws.Drafts.{NextOf, drafted-next}

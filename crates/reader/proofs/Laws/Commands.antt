@@ -13,8 +13,7 @@ use Rattle.schedule.specs.Judge.{withSite}
 use Rattle.format.specs.Commands.{sizeOf}
 use Rattle.format.proofs.Laws.{number-one, number-two}
 use Rattle.limits.specs.declared.Node.{Node}
-use Rattle.reader.specs.declared.Draft.{Draft}
-use Rattle.reader.specs.Read.{nodeAt, flowAt, nodeFault, flowFault}
+use Rattle.reader.specs.Read.{Draft, nodeAt, flowAt, nodeFault, flowFault}
 use Rattle.reader.specs.Read.{fault, endOf}
 use Rattle.limits.proofs.Laws.Forms.{node-good, flow-good}
 use Rattle.limits.proofs.Laws.Tests.{passed}

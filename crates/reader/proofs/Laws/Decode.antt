@@ -9,14 +9,15 @@ use lib.ListN.{length, getD}
 use borrow.Author.Tests.{lt-ltb, le-ltb, eq-eqb, ne-eqb, ltb-false, eqb-true, eqb-false}
 use native.Mathlib.Omega.{arith}
 use Rattle.site.specs.declared.Site.{Site}
+use Rattle.site.specs.declared.Flow.{Flow}
+use Rattle.limits.specs.declared.Node.{Node}
 use Rattle.pinwheel.specs.Outcome.{Outcome, accepted, refused}
 use Rattle.schedule.specs.Judge.{withSite, judgeOf}
 use Rattle.site.proofs.Laws.Choices.{cond-same}
 use Rattle.schedule.proofs.Laws.Rulings.{site-accepted, site-refused}
 use Rattle.format.specs.Commands.{sizeOf}
 use Rattle.format.proofs.Laws.{size-node, size-flow, size-kinds}
-use Rattle.reader.specs.declared.Draft.{Draft}
-use Rattle.reader.specs.Read.{nodeAt, flowAt, nodeFault, flowFault, nodeAdded, flowAdded}
+use Rattle.reader.specs.Read.{Draft, nodeAt, flowAt, nodeFault, flowFault, nodeAdded, flowAdded}
 use Rattle.reader.specs.Read.{fault, after, endOf, decodeFrom, decode, blank, judgeForm, readOf}
 use Rattle.limits.proofs.Laws.Tests.{passed}
 
@@ -105,10 +106,18 @@ module _ (bytes : List ℕ) where
     unfolding decodeFrom
     decode-stop h t e = decode-step ∙ simp (lt-ltb _ _ h, ne-eqb _ _ t, ne-eqb _ _ e)
 
-    pub decode-go : at < length bytes → (getD bytes at 0 ≡ 255 → ⊥) → fault bytes at d ≡ 0
-        → decodeOn bytes at d ≡ decodeOn bytes (at + sizeOf (getD bytes at 0)) (after bytes at d)
-    unfolding decodeFrom decodeOn
-    decode-go h t e = decode-step ∙ simp (lt-ltb _ _ h, ne-eqb _ _ t, eq-eqb _ _ e)
+    module _ (h : at < length bytes) (t : getD bytes at 0 ≡ 255 → ⊥) (e : fault bytes at d ≡ 0) where
+      pub decode-go : decodeOn bytes at d ≡ decodeOn bytes (at + sizeOf (getD bytes at 0)) (after bytes at d)
+      unfolding decodeFrom decodeOn
+      decode-go = decode-step ∙ simp (lt-ltb _ _ h, ne-eqb _ _ t, eq-eqb _ _ e)
+
+      pub decode-node : getD bytes at 0 ≡ 1 → (n : Node) → n ≡ nodeAt bytes at → decodeOn bytes at d ≡ decode bytes
+          → decodeOn bytes (at + sizeOf (getD bytes at 0)) (nodeAdded d n) ≡ decode bytes
+      decode-node one n q i = rw (q, ← node-none bytes at d e one .2) (sym decode-go ∙ i)
+
+      pub decode-flow : (getD bytes at 0 ≡ 1 → ⊥) → (f : Flow) → f ≡ flowAt bytes at → decodeOn bytes at d ≡ decode bytes
+          → decodeOn bytes (at + sizeOf (getD bytes at 0)) (flowAdded d f) ≡ decode bytes
+      decode-flow other f q i = rw (q, ← flow-none bytes at d e other .2) (sym decode-go ∙ i)
 
 -- A form that is right is judged; one that is refused stays so.
 module _ (bytes : List ℕ) (r : Outcome (Unit {0})) (s : Site) (e : (r, s) ≡ withSite (decode bytes)) where

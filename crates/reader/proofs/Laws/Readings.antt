@@ -18,8 +18,7 @@ use Rattle.site.proofs.Laws.Choices.{cond-same}
 use Rattle.format.specs.Commands.{sizeOf}
 use Rattle.format.proofs.Laws.{size-most}
 use Rattle.limits.specs.declared.Node.{Node}
-use Rattle.reader.specs.declared.Draft.{Draft}
-use Rattle.reader.specs.Read.{nodeAt, flowAt, nodeFault, flowFault}
+use Rattle.reader.specs.Read.{Draft, nodeAt, flowAt, nodeFault, flowFault}
 use Rattle.reader.specs.Read.{fault, withNode, nodeAdded, flowAdded, after, endOf, decodeFrom, blank, decode}
 use Rattle.reader.proofs.Laws.Commands.{node-room, flow-number, node-at, flow-at}
 use Rattle.reader.proofs.Laws.Decode.{fault-none}

@@ -14,32 +14,32 @@ abbrev ill : Site → ℕ → Bool
 ill site i = illNode (site .links) (site .parents) i (nodeOf site i)
 
 abbrev Inv-loop : tie.InvT-loop
-Inv-loop site links parents i₀ i = (i ≤ 63) × (firstIllNode site ≡ firstIn (ill site) 63 i)
+Inv-loop site links i₀ i = (i ≤ 63) × (firstIllNode site ≡ firstIn (ill site) 63 i)
 
 abbrev μ-loop : tie.MeasureT-loop
-μ-loop site links parents i₀ i = 63 - i
+μ-loop site links i₀ i = 63 - i
 
 abbrev top : tie.After-ill-node Inv-loop μ-loop → tie.At-loop Inv-loop μ-loop
-top c = c .before .before .before .before .before
+top c = c .before .before .before .before .before .before .before .before
 
 loop-holds : tie.Need-loop-holds Inv-loop μ-loop
 unfolding firstIllNode
 loop-holds c = search needs
 
-element-copy-out-t10 : tie.Need-element-copy-out-t10 Inv-loop μ-loop
-element-copy-out-t10 c = search needs
+element-copy-out-t9 : tie.Need-element-copy-out-t9 Inv-loop μ-loop
+element-copy-out-t9 c = search needs
 
-mul-t11 : tie.Need-mul-t11 Inv-loop μ-loop
-mul-t11 c = search needs
+mul-t10 : tie.Need-mul-t10 Inv-loop μ-loop
+mul-t10 c = search needs
 
-element-copy-out-t14 : tie.Need-element-copy-out-t14 Inv-loop μ-loop
-element-copy-out-t14 c = search needs
+element-copy-out-t13 : tie.Need-element-copy-out-t13 Inv-loop μ-loop
+element-copy-out-t13 c = search needs
 
-mul-t15 : tie.Need-mul-t15 Inv-loop μ-loop
-mul-t15 c = search needs
+mul-t14 : tie.Need-mul-t14 Inv-loop μ-loop
+mul-t14 c = search needs
 
-element-copy-out-t18 : tie.Need-element-copy-out-t18 Inv-loop μ-loop
-element-copy-out-t18 c = search needs
+element-copy-out-t17 : tie.Need-element-copy-out-t17 Inv-loop μ-loop
+element-copy-out-t17 c = search needs
 
 ill-node-requires : tie.Need-ill-node-requires Inv-loop μ-loop
 ill-node-requires c κs = search needs
@@ -68,11 +68,11 @@ first-ill-node-spec =
     Inv-loop
     μ-loop
     loop-holds
-    element-copy-out-t10
-    mul-t11
-    element-copy-out-t14
-    mul-t15
-    element-copy-out-t18
+    element-copy-out-t9
+    mul-t10
+    element-copy-out-t13
+    mul-t14
+    element-copy-out-t17
     ill-node-requires
     returns
     add-i
