@@ -27,9 +27,9 @@ use Rattle.limits.proofs.Laws.{passes-sound, call-when, call-first, flow-first,
 use Rattle.limits.proofs.Laws.Forms.{flow-good}
 use Rattle.counters.specs.Blocks.{cellsOf, withCells, zeros}
 use Rattle.counters.proofs.Laws.{length-with, block-same, block-other, length-zeros}
-use Rattle.admission.specs.Calls.{change, routeFor, unfitLink, admitRuling, admitOf, releaseRuling, releaseOf}
+use Rattle.admission.specs.Calls.{change, routeFor, unfitLink, flowRuling, admitRuling, admitOf, numberRuling, releaseRuling, releaseOf}
 use Rattle.admission.specs.Words.{Admissible, Releasable, admissionChecks, releaseChecks}
-use Rattle.admission.proofs.Laws.Answers.{admit-passes, release-passes}
+use Rattle.admission.proofs.Laws.Answers.{flow-passes, number-passes, call-passes}
 use Rattle.admission.proofs.Laws.Again.{again-site, again-admissible}
 
 -- 17 finds nothing just when the width fits on every link of the route.
@@ -38,7 +38,7 @@ route-room s f = room-when s (f .rate) (routeFor s f) (route-some (s .parents) (
 
 -- An admission is accepted just when it is as the words say.
 pub admits-when : (s : Site) (counters : List ℕ) (f : Flow) → (admitRuling s counters f ≡ accepted tt) ↔ Admissible s counters f
-unfolding admitRuling
+unfolding flowRuling admitRuling
 admits-when s counters f = (
   λ e. let a = checked-past (callFault s counters) _ e in
       let b = checked-past (flowLimits (s .links) 0 f) _ (a .1) in
@@ -54,8 +54,8 @@ admits-when s counters f = (
         room = route-room s f .0 (eqb-true _ _ (not-false _ (d .0)));
         time = ltb-false _ _ (g .0);
       },
-  λ w. sym (admit-passes s counters f (callFault s counters) refl (call-when s counters .1 (w .counted, w .sound)) _ refl
-      (flow-good (s .links) 0 f .1 (w .good)) _ refl (w .free) _ refl (route-room s f .1 (w .room)) _ refl (w .time)),
+  λ w. sym (call-passes s counters _ refl _ (call-when s counters .1 (w .counted, w .sound)) _
+      (flow-passes s f _ refl (flow-good (s .links) 0 f .1 (w .good)) _ refl (w .free) _ refl (route-room s f .1 (w .room)) _ refl (w .time))),
 )
 
 -- So its number has nine of the counters.
@@ -64,14 +64,14 @@ admitted-cells s counters f e = let w = admits-when s counters f .0 e in omega (
 
 -- So is a release.
 pub releases-when : (s : Site) (counters : List ℕ) (n : ℕ) → (releaseRuling s counters n ≡ accepted tt) ↔ Releasable s counters n
-unfolding releaseRuling
+unfolding numberRuling releaseRuling
 releases-when s counters n = (
   λ e. let a = checked-past (callFault s counters) _ e in
       let b = past (ltb 63 n) 5 0 _ (a .1) in
       let c = past (not (live s n)) 16 n _ (b .1) in
       let call = call-when s counters .0 (a .0) in
       record { counted = call .0; sound = call .1; few = ltb-false _ _ (b .0); living = not-false _ (c .0) },
-  λ w. sym (release-passes s counters n (callFault s counters) refl (call-when s counters .1 (w .counted, w .sound)) (w .few) (live s n) refl (rw (w .living))),
+  λ w. sym (call-passes s counters _ refl _ (call-when s counters .1 (w .counted, w .sound)) _ (number-passes s n (w .few) (live s n) refl (rw (w .living)))),
 )
 
 pub released-cells : (s : Site) (counters : List ℕ) (n : ℕ) → releaseRuling s counters n ≡ accepted tt → 9 * n + 9 ≤ length counters
@@ -79,7 +79,7 @@ released-cells s counters n e = let w = releases-when s counters n .0 e in omega
 
 -- An admission is refused by the first check that fails, with its place, and accepted where none fails.
 pub admits-first : (s : Site) (counters : List ℕ) (f : Flow) (o : Ruling) → (admitRuling s counters f ≡ o) ↔ Ruled nothing (admissionChecks s counters f) o
-unfolding admitRuling
+unfolding flowRuling admitRuling
 admits-first s counters f o =
     call-first nothing o _ _ s counters (flow-first nothing o _ _ (s .links) f
     (ruled-test nothing o (live s (f .number)) 15 (f .number) _ _ _ (λ e. e, λ e. e)
@@ -100,7 +100,7 @@ admits-first s counters f o =
 
 -- So is a release.
 pub releases-first : (s : Site) (counters : List ℕ) (n : ℕ) (o : Ruling) → (releaseRuling s counters n ≡ o) ↔ Ruled nothing (releaseChecks s counters n) o
-unfolding releaseRuling
+unfolding numberRuling releaseRuling
 releases-first s counters n o =
     call-first nothing o _ _ s counters
     (ruled-test nothing o (ltb 63 n) 5 0 _ _ _ (ltb-true _ _, lt-ltb _ _)

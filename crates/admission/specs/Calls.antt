@@ -25,27 +25,30 @@ routeFor s f = route (s .parents) (f .entry)
 abbrev pub unfitLink : Site → Flow → ℕ
 unfitLink s f = firstUnfit s (f .rate) (routeFor s f)
 
--- 01, the order of an admission's checks: 1, 14, 5, 6, 15, 17, 18. 5 and 6 are those of a FLOW; a call has no last number that its own must be above.
-unfoldable pub admitRuling : Site → List ℕ → Flow → Ruling
-admitRuling s counters f =
-    checked (callFault s counters)
-    (checked (flowLimits (s .links) 0 f)
+-- 01, the order of the checks of a flow that is to come: 5, 6, 15, 17, 18. 5 and 6 are those of a FLOW; a call has no last number that its own must be above.
+unfoldable pub flowRuling : Site → Flow → Ruling
+flowRuling s f =
+    checked (flowLimits (s .links) 0 f)
     (cond (live s (f .number)) (refused 15 (f .number))
     (cond (not (eqb (unfitLink s f) 0)) (refused 17 (unfitLink s f))
     (cond (ltb (f .deadline) (along (gapsJudged s) (routeFor s f))) (refused 18 (f .number))
-    (accepted tt)))))
+    (accepted tt))))
+
+-- 01, the order of an admission's checks: 1, 14, then these.
+unfoldable pub admitRuling : Site → List ℕ → Flow → Ruling
+admitRuling s counters f = checked (callFault s counters) (flowRuling s f)
 
 -- 01: admission makes the flow live and sets the nine cells that belong to it to 0.
 unfoldable pub admitOf : Site → List ℕ → Flow → Ruling × Site × List ℕ
 admitOf s counters f = change (admitRuling s counters f) (withFlow s f) s (withCells (f .number) (zeros 9) counters) counters
 
--- 01, the order of a release's checks: 1, 14, 5, 16.
+-- 01, the order of the checks of a number that is to go: 5, 16.
+unfoldable pub numberRuling : Site → ℕ → Ruling
+numberRuling s n = cond (ltb 63 n) (refused 5 0) (cond (not (live s n)) (refused 16 n) (accepted tt))
+
+-- 01, the order of a release's checks: 1, 14, then these.
 unfoldable pub releaseRuling : Site → List ℕ → ℕ → Ruling
-releaseRuling s counters n =
-    checked (callFault s counters)
-    (cond (ltb 63 n) (refused 5 0)
-    (cond (not (live s n)) (refused 16 n)
-    (accepted tt)))
+releaseRuling s counters n = checked (callFault s counters) (numberRuling s n)
 
 -- 01: release takes the flow out and sets its nine cells to 0.
 unfoldable pub releaseOf : Site → List ℕ → ℕ → Ruling × Site × List ℕ

@@ -6,17 +6,13 @@ use site::Site;
 ghost use mathlib.Core.Path.{_≡_};
 ghost use Rattle.pinwheel.specs.Outcome.{settled};
 ghost use Rattle.schedule.specs.Judge.{ruling};
-ghost use Rattle.admission.specs.Calls.{admitRuling, admitOf, releaseRuling, releaseOf};
-ghost use Rattle.admission.specs.Inner.{cleared};
+ghost use Rattle.counters.specs.Blocks.{cleared};
+ghost use Rattle.admission.specs.Calls.{flowRuling, admitRuling, admitOf, numberRuling, releaseRuling, releaseOf};
 
-// The checks of an admission in their order: 1 and 14, 5 and 6, 15, 17, 18.
-fn judge_admission(site: Site, counters: &[u32], flow: Flow) -> Verdict
-    ensures { λ r. ⌜ ruling r ≡ admitRuling site (now (counters .entry)) flow ⌝ }
+// The checks of a flow that is to come besides 1 and 14, in their order: 5 and 6, 15, 17, 18.
+pub fn judge_flow(site: Site, flow: Flow) -> Verdict
+    ensures { λ r. ⌜ ruling r ≡ flowRuling site flow ⌝ }
 {
-    let call = limits::call_fault(site, counters);
-    if call != 0 {
-        return Verdict::Refused(call, 0);
-    }
     let limit = limits::flow_limits(site.links, 0, flow);
     let live = site::is_live(site, flow.number);
     let number = flow.number as usize;
@@ -38,14 +34,10 @@ fn judge_admission(site: Site, counters: &[u32], flow: Flow) -> Verdict
     Verdict::Accepted
 }
 
-// The checks of a release in their order: 1 and 14, 5, 16.
-fn judge_release(site: Site, counters: &[u32], number: u8) -> Verdict
-    ensures { λ r. ⌜ ruling r ≡ releaseRuling site (now (counters .entry)) number ⌝ }
+// The checks of a number that is to go besides 1 and 14, in their order: 5, 16.
+pub fn judge_number(site: Site, number: u8) -> Verdict
+    ensures { λ r. ⌜ ruling r ≡ numberRuling site number ⌝ }
 {
-    let call = limits::call_fault(site, counters);
-    if call != 0 {
-        return Verdict::Refused(call, 0);
-    }
     if 63 < number {
         return Verdict::Refused(5, 0);
     }
@@ -55,18 +47,34 @@ fn judge_release(site: Site, counters: &[u32], number: u8) -> Verdict
     Verdict::Accepted
 }
 
-// An accepted call sets the nine cells of its flow number to 0, if the counters have them. They are lent on from where they stand.
+// The checks of an admission in their order: 1 and 14, then those of the flow.
+fn judge_admission(site: Site, counters: &[u32], flow: Flow) -> Verdict
+    ensures { λ r. ⌜ ruling r ≡ admitRuling site (now (counters .entry)) flow ⌝ }
+{
+    let call = limits::call_fault(site, counters);
+    if call != 0 {
+        return Verdict::Refused(call, 0);
+    }
+    judge_flow(site, flow)
+}
+
+// The checks of a release in their order: 1 and 14, then those of the number.
+fn judge_release(site: Site, counters: &[u32], number: u8) -> Verdict
+    ensures { λ r. ⌜ ruling r ≡ releaseRuling site (now (counters .entry)) number ⌝ }
+{
+    let call = limits::call_fault(site, counters);
+    if call != 0 {
+        return Verdict::Refused(call, 0);
+    }
+    judge_number(site, number)
+}
+
+// An accepted call sets the nine cells of its flow number to 0.
 fn clear_cells(verdict: Verdict, counters: &mut [u32], number: u8)
     ensures { λ _. ⌜ now (counters .exit) ≡ settled (ruling verdict) (cleared number (now (counters .entry))) (now (counters .entry)) ⌝ }
 {
     match verdict {
-        Verdict::Accepted => {
-            let at = 9 * number as usize;
-            let end = at + 9;
-            if end <= counters.len() {
-                counters::clear(&mut counters[at..end]);
-            }
-        }
+        Verdict::Accepted => counters::clear_flow(counters, number),
         Verdict::Refused(_number, _place) => {}
     }
 }

@@ -7,11 +7,12 @@ use mathlib.Core.List.{List, _∷_, _++_, append-assoc}
 use mathlib.Core.Logic.{_⊎_, inl, inr}
 use lib.ListN.{length, take, drop, replicate, length-append, length-take, length-drop, length-replicate, take-append-drop}
 use lib.Seq.{length-take-le, drop-append-le, take-append-le, drop-append-add, drop-drop, take-at, drop-at}
+use borrow.Author.Tests.{le-leb, lt-leb}
 use native.Mathlib.Nat.{mul-suc, mul-zero, mul-le-mul-left}
 use native.Mathlib.Omega.{arith}
 use Rattle.pinwheel.specs.Search.{joined}
 use Rattle.pinwheel.proofs.Laws.Search.{lt-or-le}
-use Rattle.counters.specs.Blocks.{block, withBlock, zeros}
+use Rattle.counters.specs.Blocks.{block, withBlock, withCells, zeros, cleared}
 
 -- A block ends where the next begins, at the latest.
 apart : (k n f : ℕ) → n < f → k * n + k ≤ k * f
@@ -101,3 +102,14 @@ block-zeros k n r l = part k (k * n) r l
     part (suc j) zero (suc m) h = ap (λ (xs : List ℕ). 0 ∷ xs) (part j zero m (omega arith))
     part j (suc a) zero h = absurd (omega arith)
     part j (suc a) (suc m) h = part j a m (omega arith)
+
+-- The nine cells of a flow number, lent on and come back as zeros; and counters that do not have them.
+module _ (n : ℕ) (cs : List ℕ) where
+  pub flow-cleared : (ys : List ℕ) → 9 * n + 9 ≤ length cs → ys ≡ zeros (length (take (9 * n + 9 - 9 * n) (drop (9 * n) cs)))
+      → take (9 * n) cs ++ (ys ++ drop (9 * n + 9 - 9 * n) (drop (9 * n) cs)) ≡ cleared n cs
+  unfolding cleared withCells
+  flow-cleared ys fits e = rw (le-leb _ _ fits) (block-back 9 n ys cs ∙ rw (e, block-lent 9 n cs, length-block 9 n cs fits))
+
+  pub flow-absent : length cs < 9 * n + 9 → cs ≡ cleared n cs
+  unfolding cleared
+  flow-absent short = rw (lt-leb _ _ short)
