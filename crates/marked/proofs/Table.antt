@@ -24,9 +24,9 @@ use Rattle.admission.specs.Calls.{change, flowRuling, admitRuling, admitOf}
 use Rattle.queues.specs.Cells.{moved, arrived, delivering, passed, step}
 use Rattle.queues.specs.Pace.{All}
 use Rattle.simulation.specs.Hops.{hopsAlong, hopsOf}
-use Rattle.simulation.specs.Slot.{recounted, overflows, firstOverflow, unexpected, firstUnexpected, slotRuling, cellsAfter, slotOf}
+use Rattle.simulation.specs.Slot.{recounted, overflows, firstOverflow, unexpected, firstUnexpected, arrivalsRuling, slotRuling, cellsAfter, slotOf}
 use Rattle.marked.specs.Table.{Holds, table}
 
 pub table-holds : All Holds table
-unfolding All moved arrived delivering passed step hopsAlong hopsOf cellsOf linkSends recounted overflows firstOverflow unexpected firstUnexpected slotRuling cellsAfter slotOf checked settled block withBlock withCells zeros unfit firstUnfit callFault change flowRuling admitRuling admitOf last first any total largest least smallest exponent period sum limit fits base periodsOf sends earlier taken freeOffset turn level levels offsetsFor offsetsOf badGap firstBad dealt ofLink live withFlow withSchedule up depthIn depthOf climb route has used gapsFrom gapsUnder rank dealtUnder baseOf baseUnder crowded firstCrowded entryDealt listed offsetsDealt periodsDealt scheduled gapsJudged routeOf widthAt widthOn sumTo load over firstOver along late firstLate withSite reserved judgeOf numberAt bytesOf nodeAt flowAt badNode badFlow nodeLimits misplaced flowLimits nodeFault flowFault sizeOf fault withNode nodeAdded flowAdded after endOf decodeFrom decode judgeForm readOf linkBytes joined scheduleBytes written siteFault writtenIf shaped nodeOf flowOf illNode illFlow firstIllNode firstIllFlow formed same accepts stands passesOf
+unfolding All moved arrived delivering passed step hopsAlong hopsOf cellsOf linkSends recounted overflows firstOverflow unexpected firstUnexpected arrivalsRuling slotRuling cellsAfter slotOf checked settled block withBlock withCells zeros unfit firstUnfit callFault change flowRuling admitRuling admitOf last first any total largest least smallest exponent period sum limit fits base periodsOf sends earlier taken freeOffset turn level levels offsetsFor offsetsOf badGap firstBad dealt ofLink live withFlow withSchedule up depthIn depthOf climb route has used gapsFrom gapsUnder rank dealtUnder baseOf baseUnder crowded firstCrowded entryDealt listed offsetsDealt periodsDealt scheduled gapsJudged routeOf widthAt widthOn sumTo load over firstOver along late firstLate withSite reserved judgeOf numberAt bytesOf nodeAt flowAt badNode badFlow nodeLimits misplaced flowLimits nodeFault flowFault sizeOf fault withNode nodeAdded flowAdded after endOf decodeFrom decode judgeForm readOf linkBytes joined scheduleBytes written siteFault writtenIf shaped nodeOf flowOf illNode illFlow firstIllNode firstIllFlow formed same accepts stands passesOf
 table-holds = (refl, (refl, (refl, (refl, (refl, (refl, (refl, (refl, (refl, (refl, (refl, (refl, (refl, tt)))))))))))))

@@ -12,7 +12,7 @@ use lib.ListN.{length, getD}
 use borrow.Author.Tests.{lt-ltb, le-ltb, eq-eqb, eqb-true, ltb-true, ltb-false, not-true, not-false}
 use native.Mathlib.Decide.{ℕ-discrete}
 use native.Mathlib.Omega.{arith}
-use Rattle.pinwheel.specs.Outcome.{Outcome, Ruling, accepted, refused, Checks, none, check, Ruled, nothing}
+use Rattle.pinwheel.specs.Outcome.{Outcome, Ruling, accepted, refused, checked, Checks, none, check, Ruled, nothing}
 use Rattle.pinwheel.specs.Search.{first, total, joined}
 use Rattle.pinwheel.proofs.Laws.Outcomes.{past, checked-pass, checked-past, settled-accepted, settled-refused, ruled-check, ruled-test, ruled-end}
 use Rattle.pinwheel.proofs.Laws.Search.{lt-or-le, last-passes, last-above, last-is, first-none, first-found}
@@ -23,19 +23,19 @@ use Rattle.schedule.specs.Words.{SendsAt}
 use Rattle.schedule.proofs.Laws.Slots.{sends-in}
 use Rattle.limits.specs.Check.{passesOf, callFault}
 use Rattle.limits.specs.Words.{Sound}
-use Rattle.limits.proofs.Laws.{passes-sound, call-when, site-first, call-first, siblings-apart, route-whole}
+use Rattle.limits.proofs.Laws.{passes-sound, call-when, site-first, call-first, siblings-apart}
 use Rattle.limits.proofs.Laws.Check.{passes-few}
 use Rattle.limits.proofs.Laws.Tests.{not-when}
 use Rattle.counters.specs.Blocks.{cellsOf, zeros}
 use Rattle.counters.proofs.Laws.{length-block, length-joined, block-joined, block-zeros}
-use Rattle.simulation.specs.Sender.{childSends, sendingChild, senderOf}
+use Rattle.simulation.specs.Sender.{childSends, sendingChild, lookupOf, senderOf}
 use Rattle.queues.specs.Cells.{Hop}
 use Rattle.queues.specs.Words.{hopAt}
 use Rattle.simulation.specs.Hops.{Service, own, hopsAlong, hopsOf}
-use Rattle.simulation.specs.Slot.{recounted, overflows, firstOverflow, unexpected, firstUnexpected, slotRuling, cellsAfter, slotOf, startRuling, startOf}
+use Rattle.simulation.specs.Slot.{recounted, overflows, firstOverflow, unexpected, firstUnexpected, arrivalsRuling, slotRuling, advanceRuling, cellsAfter, slotOf, advanceOf, startRuling, startOf}
 use Rattle.simulation.specs.Words.{ChildSends, NoneSends, SendingChild, senderChecks, Overflows, Unexpected, Lowest, Playable, slotChecks, startChecks}
 use Rattle.simulation.specs.Inner.{AllMovable}
-use Rattle.simulation.proofs.Laws.Answers.{sender-found, slot-passes}
+use Rattle.simulation.proofs.Laws.Answers.{lookup-found, sender-passes, arrivals-pass}
 use Rattle.simulation.proofs.Laws.Moves.{length-after}
 
 -- A child's test in words.
@@ -82,7 +82,7 @@ module _ (s : Site) (e : passesOf s ≡ true) (p t : ℕ) where
 
 -- A lookup is accepted with c just when the site passes, the parent is the root or a node, and c is the child that sends or, where none does, 0.
 pub sender-when : (s : Site) (p t c : ℕ) → (senderOf s p t ≡ accepted c) ↔ (Sound s × (p ≤ s .links) × SendingChild s p t c)
-unfolding senderOf
+unfolding senderOf lookupOf
 sender-when s p t c = (
   λ e. let a = past (not (passesOf s)) 14 0 _ e in
       let b = past (ltb (s .links) p) 6 0 _ (a .1) in
@@ -90,7 +90,7 @@ sender-when s p t c = (
       let q : sendingChild s p t ≡ c = cc in
       (passes-sound s .0 passes, ltb-false _ _ (b .0), child-when s passes p t c .0 q),
   λ w. let passes = passes-sound s .1 (w .0) in
-      sym (sender-found s p t (passesOf s) refl (rw passes) c (w .1) (sym (child-when s passes p t c .1 (w .2)))),
+      sym (sender-passes s p t (passesOf s) refl (rw passes) _ (lookup-found s p t c (w .1) (sym (child-when s passes p t c .1 (w .2))))),
 )
 
 -- A child above 0 is given just when it is one of that parent and sends in that slot, and 0 just when none does.
@@ -108,7 +108,7 @@ sender-none s p t = (
 
 -- Every answer, by the first check that fails.
 pub sender-first : (s : Site) (p t : ℕ) (o : Outcome ℕ) → (senderOf s p t ≡ o) ↔ Ruled (SendingChild s p t) (senderChecks s p) o
-unfolding senderOf
+unfolding senderOf lookupOf
 sender-first s p t o =
     site-first (SendingChild s p t) o _ _ s
     (λ e. ruled-test (SendingChild s p t) o (ltb (s .links) p) 6 0 _ none _ (ltb-true _ _, lt-ltb _ _)
@@ -175,7 +175,7 @@ module _ (p : ℕ → Bool) (P : ℕ → Type 0) (w : (n : ℕ) → (p n ≡ tru
 
 -- A slot is refused by the first check that fails, with its place, and accepted where none fails.
 pub slots-first : (s : Site) (cs xs : List ℕ) (o : Ruling) → (slotRuling s cs xs ≡ o) ↔ Ruled nothing (slotChecks s cs xs) o
-unfolding slotRuling firstOverflow firstUnexpected
+unfolding slotRuling arrivalsRuling firstOverflow firstUnexpected
 slots-first s cs xs o =
     ruled-test nothing o (not (eqb (length xs) 64)) 1 0 _ _ _ (not-when (eqb (length xs) 64) _ (eqb-true _ _, eq-eqb _ _))
     (λ _. call-first nothing o _ _ s cs
@@ -189,7 +189,7 @@ starts-first s cs o = call-first nothing o _ none s cs (ruled-end nothing o tt t
 
 -- A slot is accepted just when it is as the words say.
 pub slots-when : (s : Site) (cs xs : List ℕ) → (slotRuling s cs xs ≡ accepted tt) ↔ Playable s cs xs
-unfolding slotRuling firstOverflow firstUnexpected overflows unexpected
+unfolding slotRuling arrivalsRuling firstOverflow firstUnexpected overflows unexpected
 slots-when s cs xs = (
   λ e. let a = past (not (eqb (length xs) 64)) 1 0 _ e in
       let b = checked-past (callFault s cs) _ (a .1) in
@@ -203,9 +203,10 @@ slots-when s cs xs = (
         fits = λ n l on. ltb-false _ _ (rw on at (first-none (overflows s cs xs) 64 .0 (ltb-false _ _ (c .0)) n l));
         expected = λ n l off. let z = ltb-false 0 (getD xs n 0) (rw off at (first-none (unexpected s xs) 64 .0 (ltb-false _ _ (d .0)) n l)) in omega arith;
       },
-  λ w. sym (slot-passes s cs xs (w .listed) (callFault s cs) refl (call-when s cs .1 (w .counted, w .sound)) (firstOverflow s cs xs) refl
+  λ w. rw (eq-eqb _ _ (w .listed), call-when s cs .1 (w .counted, w .sound), checked-pass 0 _ refl)
+      (sym (arrivals-pass s cs xs (firstOverflow s cs xs) refl
       (first-none (overflows s cs xs) 64 .1 (λ n l. fit w n l (live s n) refl)) (firstUnexpected s xs) refl
-      (first-none (unexpected s xs) 64 .1 (λ n l. known w n l (live s n) refl))),
+      (first-none (unexpected s xs) 64 .1 (λ n l. known w n l (live s n) refl)))),
 )
   where
     fit : Playable s cs xs → (n : ℕ) → n < 64 → (b : Bool) → live s n ≡ b → b && ltb 4294967295 (total (cellsOf n cs) + getD xs n 0) ≡ false
@@ -267,16 +268,39 @@ pub start-cells : (n : ℕ) → n < 64 → cellsOf n (zeros 576) ≡ zeros 9
 unfolding cellsOf
 start-cells n l = block-zeros 9 n 576 (omega arith)
 
--- An accepted slot can be moved: routes are short enough, and nothing leaves 32 bits.
-pub slot-ready : (s : Site) (cs xs : List ℕ) → slotRuling s cs xs ≡ accepted tt → AllMovable s cs xs
-unfolding cellsOf
-slot-ready s cs xs e =
-    let w = slots-when s cs xs .0 e in let long = w .counted in record {
-      counted = w .counted;
-      listed = w .listed;
+-- Where the other checks pass, packets can be moved, on any site: nothing leaves 32 bits.
+pub advance-ready : (s : Site) (cs xs : List ℕ) → advanceRuling s cs xs ≡ accepted tt → AllMovable s cs xs
+unfolding advanceRuling arrivalsRuling firstOverflow overflows cellsOf
+advance-ready s cs xs e =
+    let a = past (not (eqb (length xs) 64)) 1 0 _ e in
+    let b = past (not (eqb (length cs) 576)) 1 0 _ (a .1) in
+    let c = past (ltb (firstOverflow s cs xs) 64) 19 _ _ (b .1) in
+    let long : length cs ≡ 576 = eqb-true _ _ (not-false _ (b .0)) in
+    record {
+      counted = long;
+      listed = eqb-true _ _ (not-false _ (a .0));
       each = λ n l on. record {
         nine = length-block 9 n cs (omega arith);
-        short = route-whole s (passes-sound s .1 (w .sound)) n on .1;
-        fits = w .fits n l on;
+        fits = ltb-false _ _ (rw on at (first-none (overflows s cs xs) 64 .0 (ltb-false _ _ (c .0)) n l));
       };
     }
+
+-- On a site that passes check 14 a slot is what it is where that check is not asked, for every service, and so is a lookup.
+pub slot-advances : (v : Service) (s : Site) (cs xs : List ℕ) (t : ℕ) → passesOf s ≡ true → slotOf v s cs xs t ≡ advanceOf v s cs xs t
+unfolding slotOf advanceOf slotRuling advanceRuling callFault checked
+slot-advances v s cs xs t e = rw e (go (eqb (length cs) 576))
+  where
+    go : (b : Bool)
+        → recounted
+        (cond (not (eqb (length xs) 64)) (refused 1 0)
+        (cond (eqb (cond (not b) 1 0) 0) (arrivalsRuling s cs xs) (refused (cond (not b) 1 0) 0)))
+        (joined (cellsAfter v s cs xs t) 64 0) cs
+        ≡ recounted
+        (cond (not (eqb (length xs) 64)) (refused 1 0) (cond (not b) (refused 1 0) (arrivalsRuling s cs xs)))
+        (joined (cellsAfter v s cs xs t) 64 0) cs
+    go true = refl
+    go false = refl
+
+pub sender-looks : (s : Site) (p t : ℕ) → passesOf s ≡ true → senderOf s p t ≡ lookupOf s p t
+unfolding senderOf
+sender-looks s p t e = rw e

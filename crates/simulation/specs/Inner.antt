@@ -30,14 +30,13 @@ inSlot sending rate node = record { sends = λ t. true; width = widthAt sending 
 abbrev pub hopsIn : List ℕ → List ℕ → ℕ → ℕ → List Hop
 hopsIn parents sending rate entry = hopsAlong (inSlot sending rate) (route parents entry)
 
--- Nine cells that an arrival can join without leaving 32 bits, and a route for which they are enough.
-pub record Movable (cells : List ℕ) (arrival : ℕ) (links : List ℕ) : Type 0 where
+-- Nine cells that an arrival can join without leaving 32 bits.
+pub record Movable (cells : List ℕ) (arrival : ℕ) : Type 0 where
   pub nine : length cells ≡ 9
-  pub short : length links ≤ 8
   pub fits : total cells + arrival ≤ 4294967295
 
 -- Every live flow's cells are such.
 pub record AllMovable (s : Site) (counters arrivals : List ℕ) : Type 0 where
   pub counted : length counters ≡ 576
   pub listed : length arrivals ≡ 64
-  pub each : (n : ℕ) → n < 64 → live s n ≡ true → Movable (cellsOf n counters) (getD arrivals n 0) (routeOf s n)
+  pub each : (n : ℕ) → n < 64 → live s n ≡ true → Movable (cellsOf n counters) (getD arrivals n 0)

@@ -24,9 +24,10 @@ childSends s p t n = eqb (ofLink (s .parents) n) p && linkSends s n t
 unfoldable pub sendingChild : Site → ℕ → ℕ → ℕ
 sendingChild s p t = last (childSends s p t) (used (s .links))
 
--- 01, the order of a lookup's checks: 14, 6. The root, number 0, is always a node.
+-- 01, the check of a lookup besides 14: 6. The root, number 0, is always a node.
+unfoldable pub lookupOf : Site → ℕ → ℕ → Outcome ℕ
+lookupOf s p t = cond (ltb (s .links) p) (refused 6 0) (accepted (sendingChild s p t))
+
+-- 01, the order of a lookup's checks: 14, then this.
 unfoldable pub senderOf : Site → ℕ → ℕ → Outcome ℕ
-senderOf s p t =
-    cond (not (passesOf s)) (refused 14 0)
-    (cond (ltb (s .links) p) (refused 6 0)
-    (accepted (sendingChild s p t)))
+senderOf s p t = cond (not (passesOf s)) (refused 14 0) (lookupOf s p t)

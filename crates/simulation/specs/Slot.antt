@@ -32,14 +32,24 @@ unexpected s arrivals n = not (live s n) && ltb 0 (getD arrivals n 0)
 unfoldable pub firstUnexpected : Site → List ℕ → ℕ
 firstUnexpected s arrivals = first (unexpected s arrivals) 64 0
 
--- 01, the order of a slot's checks: 1 for both lists, 14, 19, 20. All of 19 comes before any of 20.
+-- 01, the order of the checks of a slot's arrivals: 19, 20. All of 19 comes before any of 20.
+unfoldable pub arrivalsRuling : Site → List ℕ → List ℕ → Ruling
+arrivalsRuling s counters arrivals =
+    cond (ltb (firstOverflow s counters arrivals) 64) (refused 19 (firstOverflow s counters arrivals))
+    (cond (ltb (firstUnexpected s arrivals) 64) (refused 20 (firstUnexpected s arrivals))
+    (accepted tt))
+
+-- 01, the order of a slot's checks: 1 for both lists, 14, then these.
 unfoldable pub slotRuling : Site → List ℕ → List ℕ → Ruling
 slotRuling s counters arrivals =
+    cond (not (eqb (length arrivals) 64)) (refused 1 0) (checked (callFault s counters) (arrivalsRuling s counters arrivals))
+
+-- Those of a slot on a site whose check 14 is not asked: 1 for both lists, 19, 20.
+unfoldable pub advanceRuling : Site → List ℕ → List ℕ → Ruling
+advanceRuling s counters arrivals =
     cond (not (eqb (length arrivals) 64)) (refused 1 0)
-    (checked (callFault s counters)
-    (cond (ltb (firstOverflow s counters arrivals) 64) (refused 19 (firstOverflow s counters arrivals))
-    (cond (ltb (firstUnexpected s arrivals) 64) (refused 20 (firstUnexpected s arrivals))
-    (accepted tt))))
+    (cond (not (eqb (length counters) 576)) (refused 1 0)
+    (arrivalsRuling s counters arrivals))
 
 -- 01, the order of a start's checks: 1, 14.
 unfoldable pub startRuling : Site → List ℕ → Ruling
@@ -52,6 +62,10 @@ recounted r new counters = (r, settled r new counters)
 -- 01, One slot: slot t of every flow.
 unfoldable pub slotOf : Service → Site → List ℕ → List ℕ → ℕ → Ruling × List ℕ
 slotOf v s counters arrivals t = recounted (slotRuling s counters arrivals) (joined (cellsAfter v s counters arrivals t) 64 0) counters
+
+-- The same where check 14 is not asked. On every site that passes it this is the slot: the law `slot-advances`.
+unfoldable pub advanceOf : Service → Site → List ℕ → List ℕ → ℕ → Ruling × List ℕ
+advanceOf v s counters arrivals t = recounted (advanceRuling s counters arrivals) (joined (cellsAfter v s counters arrivals t) 64 0) counters
 
 -- 01: a start sets all 576 counters to 0.
 unfoldable pub startOf : Site → List ℕ → Ruling × List ℕ

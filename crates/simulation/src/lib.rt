@@ -7,9 +7,9 @@ use site::Site;
 ghost use mathlib.Core.Path.{_≡_};
 ghost use Rattle.pinwheel.specs.Rule.{sends};
 ghost use Rattle.schedule.specs.Judge.{ruling};
-ghost use Rattle.simulation.specs.Sender.{found, sendingChild, senderOf};
+ghost use Rattle.simulation.specs.Sender.{found, sendingChild, lookupOf, senderOf};
 ghost use Rattle.simulation.specs.Hops.{own};
-ghost use Rattle.simulation.specs.Slot.{slotRuling, slotOf, startOf};
+ghost use Rattle.simulation.specs.Slot.{advanceRuling, advanceOf, slotOf, startOf};
 
 // The child that sends or 0, or the number and the place of a refusal.
 pub enum Lookup {
@@ -44,6 +44,16 @@ fn sending_child(site: Site, parent: u8, slot: u32) -> u8
     0
 }
 
+// Which child of the parent sends in the slot, on a site whose check 14 is not asked here.
+pub fn look_up(site: Site, parent: u8, slot: u32) -> Lookup
+    ensures { λ r. ⌜ found r ≡ lookupOf site parent slot ⌝ }
+{
+    if site.links < parent {
+        return Lookup::Refused(6, 0);
+    }
+    Lookup::Child(sending_child(site, parent, slot))
+}
+
 // Which child of the parent sends in the slot.
 pub fn sender(site: Site, parent: u8, slot: u32) -> Lookup
     ensures { λ r. ⌜ found r ≡ senderOf site parent slot ⌝ }
@@ -51,10 +61,7 @@ pub fn sender(site: Site, parent: u8, slot: u32) -> Lookup
     if !limits::passes(site) {
         return Lookup::Refused(14, 0);
     }
-    if site.links < parent {
-        return Lookup::Refused(6, 0);
-    }
-    Lookup::Child(sending_child(site, parent, slot))
+    look_up(site, parent, slot)
 }
 
 // Starts a rehearsal: all counters become 0.
@@ -69,16 +76,15 @@ pub fn start(site: Site, counters: &mut [u32]) -> Verdict
     Verdict::Accepted
 }
 
-// The checks of a slot in their order: 1 and 14, 19, 20.
-fn judge_slot(site: Site, counters: &[u32], arrivals: &[u16]) -> Verdict
-    ensures { λ r. ⌜ ruling r ≡ slotRuling site (now (counters .entry)) (now (arrivals .entry)) ⌝ }
+// The checks of a slot besides 14, in their order: 1, 19, 20.
+fn judge_arrivals(site: Site, counters: &[u32], arrivals: &[u16]) -> Verdict
+    ensures { λ r. ⌜ ruling r ≡ advanceRuling site (now (counters .entry)) (now (arrivals .entry)) ⌝ }
 {
     if arrivals.len() != 64 {
         return Verdict::Refused(1, 0);
     }
-    let call = limits::call_fault(site, counters);
-    if call != 0 {
-        return Verdict::Refused(call, 0);
+    if counters.len() != 576 {
+        return Verdict::Refused(1, 0);
     }
     let over = checks::first_overflow(site, counters, arrivals);
     let stray = checks::first_unexpected(site, arrivals);
@@ -91,14 +97,29 @@ fn judge_slot(site: Site, counters: &[u32], arrivals: &[u16]) -> Verdict
     Verdict::Accepted
 }
 
-// One slot: arrivals join, and every sending link moves what it may of each live flow.
-pub fn slot(site: Site, counters: &mut [u32], arrivals: &[u16], number: u32) -> Verdict
-    ensures { λ r. ⌜ (ruling r, now (counters .exit)) ≡ slotOf own site (now (counters .entry)) (now (arrivals .entry)) number ⌝ }
+// One slot on a site whose check 14 is not asked here: arrivals join, and every sending link moves what it may of each live flow.
+pub fn advance(site: Site, counters: &mut [u32], arrivals: &[u16], number: u32) -> Verdict
+    ensures { λ r. ⌜ (ruling r, now (counters .exit)) ≡ advanceOf own site (now (counters .entry)) (now (arrivals .entry)) number ⌝ }
 {
-    let verdict = judge_slot(site, counters, arrivals);
+    let verdict = judge_arrivals(site, counters, arrivals);
     match verdict {
         Verdict::Accepted => moves::move_all(site, counters, arrivals, number),
         Verdict::Refused(_number, _place) => {}
     }
     verdict
+}
+
+// One slot. Its checks in their order: 1 and 14, 19, 20.
+pub fn slot(site: Site, counters: &mut [u32], arrivals: &[u16], number: u32) -> Verdict
+    ensures { λ r. ⌜ (ruling r, now (counters .exit)) ≡ slotOf own site (now (counters .entry)) (now (arrivals .entry)) number ⌝ }
+{
+    let listed = arrivals.len();
+    if listed != 64 {
+        return Verdict::Refused(1, 0);
+    }
+    let call = limits::call_fault(site, counters);
+    if call != 0 {
+        return Verdict::Refused(call, 0);
+    }
+    advance(site, counters, arrivals, number)
 }

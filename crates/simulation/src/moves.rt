@@ -4,7 +4,6 @@ use site::Site;
 ghost use mathlib.Core.Path.{_≡_};
 ghost use Prim.Native.Nat.{min};
 ghost use Rattle.pinwheel.specs.Search.{joined};
-ghost use Rattle.site.specs.Tree.{route};
 ghost use Rattle.queues.specs.Cells.{step};
 ghost use Rattle.simulation.specs.Hops.{own};
 ghost use Rattle.simulation.specs.Slot.{cellsAfter};
@@ -37,6 +36,7 @@ fn smaller(queue: u32, width: u32) -> u32
 }
 
 // One slot of one flow's nine cells, from its entry link up. What a link moves comes to the next queue, and joins it after that queue was judged.
+// A route that cells are too few for, which no site has that passes check 14, ends with the cells.
 fn move_packets<'a>(
     cells: &mut [u32],
     parents: &'a [u8],
@@ -45,7 +45,7 @@ fn move_packets<'a>(
     rate: u8,
     arrival: u16,
 )
-    requires { ⌜ Movable (now cells) arrival (route (now parents) entry) ⌝ }
+    requires { ⌜ Movable (now cells) arrival ⌝ }
     ensures { λ _. ⌜ now (cells .exit) ≡ step (hopsIn (now (parents .entry)) (now (sending .entry)) rate entry) 0 arrival (now (cells .entry)) ⌝ }
 {
     let joining = arrival as u32;
@@ -53,10 +53,11 @@ fn move_packets<'a>(
     let mut coming: u32 = 0;
     let mut node = entry;
     let mut k: usize = 0;
-    loop {
+    while k < 9 {
         let parent = site::parent_of(parents, node);
         if node <= parent {
-            break;
+            cells[8] = cells[8] + coming;
+            return;
         }
         let queue = cells[k];
         let whole = queue + coming;
@@ -67,7 +68,6 @@ fn move_packets<'a>(
         k += 1;
         node = parent;
     }
-    cells[8] = cells[8] + coming;
 }
 
 // One slot of every live flow. The nine cells of each are lent on from where they stand.

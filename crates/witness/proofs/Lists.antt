@@ -22,7 +22,7 @@ use Rattle.queues.specs.Cells.{moved, arrived, delivering, passed, step, waitin
 use Rattle.queues.specs.Pace.{All, Rising, Within}
 use Rattle.admission.specs.Calls.{change, flowRuling, admitRuling, admitOf, numberRuling, releaseRuling, releaseOf}
 use Rattle.simulation.specs.Hops.{own, hopsAlong, hopsOf}
-use Rattle.simulation.specs.Slot.{recounted, overflows, firstOverflow, unexpected, firstUnexpected, slotRuling, cellsAfter, slotOf, startRuling, startOf}
+use Rattle.simulation.specs.Slot.{recounted, overflows, firstOverflow, unexpected, firstUnexpected, arrivalsRuling, slotRuling, cellsAfter, slotOf, startRuling, startOf}
 use Rattle.guarantee.specs.Runs.{Call, slot, State, called, Log, Run, none, then}
 use Rattle.guarantee.specs.Demand.{entered, slotsOf, Stays, NoStart, rateOf, boundOf, Begins, Allowed, WaitsJoined, Waits, Kept}
 use Rattle.guarantee.proofs.Laws.{demand3, promised}
@@ -37,7 +37,7 @@ played-run σ₀ (c ∷ cs) l σ run = played-run σ₀ cs _ _ (then c (called o
 
 -- What the definitions give, by computing. Where the lists begin, and G = 7.
 pub begins-p : Begins 0 stateP
-unfolding called played stateP moved arrived delivering passed step hopsAlong hopsOf cellsOf linkSends recounted overflows firstOverflow unexpected firstUnexpected slotRuling cellsAfter slotOf startRuling startOf checked settled block withBlock withCells zeros unfit firstUnfit callFault change flowRuling admitRuling admitOf numberRuling releaseRuling releaseOf last first any total largest least smallest exponent period sum limit fits base periodsOf sends earlier taken freeOffset turn level levels offsetsFor offsetsOf badGap firstBad dealt ofLink live withFlow withoutFlow withSchedule up depthIn depthOf climb route has used gapsFrom gapsUnder rank dealtUnder baseOf baseUnder crowded firstCrowded entryDealt listed offsetsDealt periodsDealt scheduled gapsJudged routeOf widthAt widthOn sumTo load over firstOver along late firstLate reserved judgeOf badNode badFlow nodeLimits misplaced flowLimits joined shaped nodeOf flowOf illNode illFlow firstIllNode firstIllFlow formed same accepts stands passesOf
+unfolding called played stateP moved arrived delivering passed step hopsAlong hopsOf cellsOf linkSends recounted overflows firstOverflow unexpected firstUnexpected arrivalsRuling slotRuling cellsAfter slotOf startRuling startOf checked settled block withBlock withCells zeros unfit firstUnfit callFault change flowRuling admitRuling admitOf numberRuling releaseRuling releaseOf last first any total largest least smallest exponent period sum limit fits base periodsOf sends earlier taken freeOffset turn level levels offsetsFor offsetsOf badGap firstBad dealt ofLink live withFlow withoutFlow withSchedule up depthIn depthOf climb route has used gapsFrom gapsUnder rank dealtUnder baseOf baseUnder crowded firstCrowded entryDealt listed offsetsDealt periodsDealt scheduled gapsJudged routeOf widthAt widthOn sumTo load over firstOver along late firstLate reserved judgeOf badNode badFlow nodeLimits misplaced flowLimits joined shaped nodeOf flowOf illNode illFlow firstIllNode firstIllFlow formed same accepts stands passesOf
 begins-p = record { passes = refl; counted = refl; living = refl; empty = refl }
 
 pub bound-p : boundOf own readP 0 ≡ 7
@@ -63,15 +63,15 @@ pub record SixteenPlayed : Type 0 where
   pub wait : waiting (arrived 3 (cellsOf 0 (played sixteen [] stateP .1 .counters))) ≡ 21
 
 pub mixed-played : MixedPlayed
-unfolding called played stateP moved arrived delivering passed step hopsAlong hopsOf cellsOf linkSends recounted overflows firstOverflow unexpected firstUnexpected slotRuling cellsAfter slotOf startRuling startOf checked settled block withBlock withCells zeros unfit firstUnfit callFault change flowRuling admitRuling admitOf numberRuling releaseRuling releaseOf last first any total largest least smallest exponent period sum limit fits base periodsOf sends earlier taken freeOffset turn level levels offsetsFor offsetsOf badGap firstBad dealt ofLink live withFlow withoutFlow withSchedule up depthIn depthOf climb route has used gapsFrom gapsUnder rank dealtUnder baseOf baseUnder crowded firstCrowded entryDealt listed offsetsDealt periodsDealt scheduled gapsJudged routeOf widthAt widthOn sumTo load over firstOver along late firstLate reserved judgeOf badNode badFlow nodeLimits misplaced flowLimits joined shaped nodeOf flowOf illNode illFlow firstIllNode firstIllFlow formed same accepts stands passesOf
+unfolding called played stateP moved arrived delivering passed step hopsAlong hopsOf cellsOf linkSends recounted overflows firstOverflow unexpected firstUnexpected arrivalsRuling slotRuling cellsAfter slotOf startRuling startOf checked settled block withBlock withCells zeros unfit firstUnfit callFault change flowRuling admitRuling admitOf numberRuling releaseRuling releaseOf last first any total largest least smallest exponent period sum limit fits base periodsOf sends earlier taken freeOffset turn level levels offsetsFor offsetsOf badGap firstBad dealt ofLink live withFlow withoutFlow withSchedule up depthIn depthOf climb route has used gapsFrom gapsUnder rank dealtUnder baseOf baseUnder crowded firstCrowded entryDealt listed offsetsDealt periodsDealt scheduled gapsJudged routeOf widthAt widthOn sumTo load over firstOver along late firstLate reserved judgeOf badNode badFlow nodeLimits misplaced flowLimits joined shaped nodeOf flowOf illNode illFlow firstIllNode firstIllFlow formed same accepts stands passesOf
 mixed-played = record { log = refl; cells = refl }
 
 pub lone-played : LonePlayed
-unfolding called played stateP moved arrived delivering passed step hopsAlong hopsOf cellsOf linkSends recounted overflows firstOverflow unexpected firstUnexpected slotRuling cellsAfter slotOf startRuling startOf checked settled block withBlock withCells zeros unfit firstUnfit callFault change flowRuling admitRuling admitOf numberRuling releaseRuling releaseOf last first any total largest least smallest exponent period sum limit fits base periodsOf sends earlier taken freeOffset turn level levels offsetsFor offsetsOf badGap firstBad dealt ofLink live withFlow withoutFlow withSchedule up depthIn depthOf climb route has used gapsFrom gapsUnder rank dealtUnder baseOf baseUnder crowded firstCrowded entryDealt listed offsetsDealt periodsDealt scheduled gapsJudged routeOf widthAt widthOn sumTo load over firstOver along late firstLate reserved judgeOf badNode badFlow nodeLimits misplaced flowLimits joined shaped nodeOf flowOf illNode illFlow firstIllNode firstIllFlow formed same accepts stands passesOf delivered
+unfolding called played stateP moved arrived delivering passed step hopsAlong hopsOf cellsOf linkSends recounted overflows firstOverflow unexpected firstUnexpected arrivalsRuling slotRuling cellsAfter slotOf startRuling startOf checked settled block withBlock withCells zeros unfit firstUnfit callFault change flowRuling admitRuling admitOf numberRuling releaseRuling releaseOf last first any total largest least smallest exponent period sum limit fits base periodsOf sends earlier taken freeOffset turn level levels offsetsFor offsetsOf badGap firstBad dealt ofLink live withFlow withoutFlow withSchedule up depthIn depthOf climb route has used gapsFrom gapsUnder rank dealtUnder baseOf baseUnder crowded firstCrowded entryDealt listed offsetsDealt periodsDealt scheduled gapsJudged routeOf widthAt widthOn sumTo load over firstOver along late firstLate reserved judgeOf badNode badFlow nodeLimits misplaced flowLimits joined shaped nodeOf flowOf illNode illFlow firstIllNode firstIllFlow formed same accepts stands passesOf delivered
 lone-played = record { log = refl; later = refl; waits = refl; leaves = refl }
 
 pub sixteen-played : SixteenPlayed
-unfolding called played stateP moved arrived delivering passed step hopsAlong hopsOf cellsOf linkSends recounted overflows firstOverflow unexpected firstUnexpected slotRuling cellsAfter slotOf startRuling startOf checked settled block withBlock withCells zeros unfit firstUnfit callFault change flowRuling admitRuling admitOf numberRuling releaseRuling releaseOf last first any total largest least smallest exponent period sum limit fits base periodsOf sends earlier taken freeOffset turn level levels offsetsFor offsetsOf badGap firstBad dealt ofLink live withFlow withoutFlow withSchedule up depthIn depthOf climb route has used gapsFrom gapsUnder rank dealtUnder baseOf baseUnder crowded firstCrowded entryDealt listed offsetsDealt periodsDealt scheduled gapsJudged routeOf widthAt widthOn sumTo load over firstOver along late firstLate reserved judgeOf badNode badFlow nodeLimits misplaced flowLimits joined shaped nodeOf flowOf illNode illFlow firstIllNode firstIllFlow formed same accepts stands passesOf waiting
+unfolding called played stateP moved arrived delivering passed step hopsAlong hopsOf cellsOf linkSends recounted overflows firstOverflow unexpected firstUnexpected arrivalsRuling slotRuling cellsAfter slotOf startRuling startOf checked settled block withBlock withCells zeros unfit firstUnfit callFault change flowRuling admitRuling admitOf numberRuling releaseRuling releaseOf last first any total largest least smallest exponent period sum limit fits base periodsOf sends earlier taken freeOffset turn level levels offsetsFor offsetsOf badGap firstBad dealt ofLink live withFlow withoutFlow withSchedule up depthIn depthOf climb route has used gapsFrom gapsUnder rank dealtUnder baseOf baseUnder crowded firstCrowded entryDealt listed offsetsDealt periodsDealt scheduled gapsJudged routeOf widthAt widthOn sumTo load over firstOver along late firstLate reserved judgeOf badNode badFlow nodeLimits misplaced flowLimits joined shaped nodeOf flowOf illNode illFlow firstIllNode firstIllFlow formed same accepts stands passesOf waiting
 sixteen-played = record { log = refl; next = refl; wait = refl }
 
 -- Flow 0 stays admitted and no rehearsal starts anew in this log; and so in one with accepted slots on top.

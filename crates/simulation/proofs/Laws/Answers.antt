@@ -8,7 +8,7 @@ use lib.ListN.{length, getD, take, drop}
 use borrow.Author.Tests.{lt-ltb, le-ltb, le-leb, eq-eqb, ne-eqb}
 use native.Mathlib.Nat.{mod-zero}
 use native.Mathlib.Omega.{arith}
-use Rattle.pinwheel.specs.Outcome.{Ruling, accepted, refused, settled}
+use Rattle.pinwheel.specs.Outcome.{Outcome, Ruling, accepted, refused, settled}
 use Rattle.pinwheel.specs.Search.{last, total}
 use Rattle.pinwheel.specs.Rule.{sends}
 use Rattle.pinwheel.proofs.Laws.Outcomes.{checked-pass, checked-fail}
@@ -23,8 +23,9 @@ use Rattle.schedule.specs.Judge.{ruling}
 use Rattle.limits.specs.Check.{passesOf, callFault}
 use Rattle.counters.specs.Blocks.{cellsOf, zeros}
 use Rattle.counters.proofs.Laws.{block-lent}
-use Rattle.simulation.specs.Sender.{childSends, sendingChild, senderOf}
-use Rattle.simulation.specs.Slot.{overflows, firstOverflow, unexpected, firstUnexpected, slotRuling, recounted, startRuling, startOf}
+use Rattle.simulation.specs.Sender.{childSends, sendingChild, lookupOf, senderOf}
+use Rattle.simulation.specs.Hops.{Service}
+use Rattle.simulation.specs.Slot.{overflows, firstOverflow, unexpected, firstUnexpected, arrivalsRuling, slotRuling, advanceRuling, recounted, slotOf, startRuling, startOf}
 
 -- Slot rule 6 at period 0, which no link in use has: a remainder by 0 is the number itself.
 pub sends-never : (p o t : ℕ) → p ≡ 0 → eqb t o ≡ sends p o t
@@ -78,19 +79,23 @@ module _ (s : Site) (p t n : ℕ) (w : Looking s p t n) where
       look-silent q = step (child ∙ q)
 
 -- The answers of a lookup.
-module _ (s : Site) (p t : ℕ) (b : Bool) (e : b ≡ passesOf s) where
-  pub sender-site : not b ≡ true → refused 14 0 ≡ senderOf s p t
-  unfolding senderOf
-  sender-site n = rw (← e, n)
+module _ (s : Site) (p t : ℕ) where
+  pub lookup-parent : s .links < p → refused 6 0 ≡ lookupOf s p t
+  unfolding lookupOf
+  lookup-parent l = rw (lt-ltb _ _ l)
 
-  module _ (passes : not b ≡ false) where
-    pub sender-parent : s .links < p → refused 6 0 ≡ senderOf s p t
-    unfolding senderOf
-    sender-parent l = rw (← e, passes, lt-ltb _ _ l)
+  pub lookup-found : (c : ℕ) → p ≤ s .links → c ≡ sendingChild s p t → accepted c ≡ lookupOf s p t
+  unfolding lookupOf
+  lookup-found c l q = rw (le-ltb _ _ l, q)
 
-    pub sender-found : (c : ℕ) → p ≤ s .links → c ≡ sendingChild s p t → accepted c ≡ senderOf s p t
+  module _ (b : Bool) (e : b ≡ passesOf s) where
+    pub sender-site : not b ≡ true → refused 14 0 ≡ senderOf s p t
     unfolding senderOf
-    sender-found c l q = rw (← e, passes, le-ltb _ _ l, q)
+    sender-site n = rw (← e, n)
+
+    pub sender-passes : not b ≡ false → (o : Outcome ℕ) → o ≡ lookupOf s p t → o ≡ senderOf s p t
+    unfolding senderOf
+    sender-passes n o q = q ∙ rw (← e, n)
 
 -- The tests of 20 and 19 of one number.
 module _ (s : Site) (xs : List ℕ) (n : ℕ) where
@@ -124,30 +129,45 @@ module _ (s : Site) (xs : List ℕ) (n : ℕ) where
     unfolding overflows live
     overflow-no l = rw (eq-eqb _ _ on, ← summed, ← f) (le-ltb _ _ l)
 
--- A slot, check by check: `call`, `over` and `stray` are what the callees answer.
+-- The checks of a slot besides 14, one by one: `over` and `stray` are what the callees answer.
 module _ (s : Site) (cs xs : List ℕ) where
-  pub slot-short : (length xs ≡ 64 → ⊥) → refused 1 0 ≡ slotRuling s cs xs
-  unfolding slotRuling
-  slot-short d = rw (ne-eqb _ _ d)
+  pub advance-unlisted : (length xs ≡ 64 → ⊥) → refused 1 0 ≡ advanceRuling s cs xs
+  unfolding advanceRuling
+  advance-unlisted d = rw (ne-eqb _ _ d)
 
-  module _ (listed : length xs ≡ 64) (call : ℕ) (calls : call ≡ callFault s cs) where
-    pub slot-call : (call ≡ 0 → ⊥) → refused call 0 ≡ slotRuling s cs xs
-    unfolding slotRuling
-    slot-call d = rw (eq-eqb _ _ listed, ← calls) (sym (checked-fail call _ d))
+  module _ (listed : length xs ≡ 64) where
+    pub advance-uncounted : (length cs ≡ 576 → ⊥) → refused 1 0 ≡ advanceRuling s cs xs
+    unfolding advanceRuling
+    advance-uncounted d = rw (eq-eqb _ _ listed, ne-eqb _ _ d)
 
-    module _ (passed : call ≡ 0) (over : ℕ) (overs : over ≡ firstOverflow s cs xs) where
-      pub slot-over : over < 64 → refused 19 over ≡ slotRuling s cs xs
-      unfolding slotRuling
-      slot-over l = rw (eq-eqb _ _ listed, ← calls, checked-pass call _ passed, ← overs, lt-ltb _ _ l)
+    pub advance-counted : length cs ≡ 576 → (r : Ruling) → r ≡ arrivalsRuling s cs xs → r ≡ advanceRuling s cs xs
+    unfolding advanceRuling
+    advance-counted e r q = q ∙ rw (eq-eqb _ _ listed, eq-eqb _ _ e)
 
-      module _ (within : 64 ≤ over) (stray : ℕ) (strays : stray ≡ firstUnexpected s xs) where
-        pub slot-stray : stray < 64 → refused 20 stray ≡ slotRuling s cs xs
-        unfolding slotRuling
-        slot-stray l = rw (eq-eqb _ _ listed, ← calls, checked-pass call _ passed, ← overs, le-ltb _ _ within, ← strays, lt-ltb _ _ l)
+  module _ (over : ℕ) (overs : over ≡ firstOverflow s cs xs) where
+    pub arrivals-over : over < 64 → refused 19 over ≡ arrivalsRuling s cs xs
+    unfolding arrivalsRuling
+    arrivals-over l = rw (← overs, lt-ltb _ _ l)
 
-        pub slot-passes : 64 ≤ stray → accepted tt ≡ slotRuling s cs xs
-        unfolding slotRuling
-        slot-passes l = rw (eq-eqb _ _ listed, ← calls, checked-pass call _ passed, ← overs, le-ltb _ _ within, ← strays, le-ltb _ _ l)
+    module _ (within : 64 ≤ over) (stray : ℕ) (strays : stray ≡ firstUnexpected s xs) where
+      pub arrivals-stray : stray < 64 → refused 20 stray ≡ arrivalsRuling s cs xs
+      unfolding arrivalsRuling
+      arrivals-stray l = rw (← overs, le-ltb _ _ within, ← strays, lt-ltb _ _ l)
+
+      pub arrivals-pass : 64 ≤ stray → accepted tt ≡ arrivalsRuling s cs xs
+      unfolding arrivalsRuling
+      arrivals-pass l = rw (← overs, le-ltb _ _ within, ← strays, le-ltb _ _ l)
+
+-- A slot's checks of its own: `call` is what the callee answers.
+module _ (v : Service) (s : Site) (cs xs : List ℕ) (t : ℕ) where
+  pub slot-unlisted : (length xs ≡ 64 → ⊥) → (refused 1 0, cs) ≡ slotOf v s cs xs t
+  unfolding slotOf slotRuling recounted settled
+  slot-unlisted d = rw (ne-eqb _ _ d)
+
+  module _ (call : ℕ) (calls : call ≡ callFault s cs) where
+    pub slot-call : length xs ≡ 64 → (call ≡ 0 → ⊥) → (refused call 0, cs) ≡ slotOf v s cs xs t
+    unfolding slotOf slotRuling recounted settled
+    slot-call listed d = rw (eq-eqb _ _ listed, ← calls, checked-fail call _ d)
 
 -- What a slot answers and leaves by the verdict.
 module _ (v : Verdict) (r : Ruling) (rules : ruling v ≡ r) (new cs : List ℕ) where

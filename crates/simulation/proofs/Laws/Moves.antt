@@ -5,7 +5,7 @@ use mathlib.Core.Bool.{Bool, true, false, cond, false≢true}
 use mathlib.Core.List.{List, [], _∷_, _++_, append-assoc, append-nil}
 use mathlib.Core.Logic.{_⊎_, inl, inr}
 use lib.ListN.{length, getD, take, drop, set, replicate, length-set, length-append, length-drop, drop-of-length-le, List·getD-eq-default, take-append-drop}
-use lib.Seq.{drop-cons, take-suc-set, drop-set-lt, append-snoc, getD-set-same, getD-set-other, drop-drop, take-at, drop-at}
+use lib.Seq.{drop-cons, take-suc-set, drop-set-lt, append-snoc, getD-set-same, getD-set-other, drop-drop, take-at, drop-at, take-all}
 use borrow.Author.Count.{below-more}
 use borrow.Author.Tests.{lt-ltb, le-leb, lt-leb, eq-eqb, ne-eqb}
 use native.Mathlib.Nat.{mul-zero}
@@ -143,19 +143,25 @@ onward-more h hs t k coming cs l =
     let v = getD cs k 0 - moved h t (getD cs k 0) + coming in
     rw (drop-cons cs k 0 l, add-one, take-suc-set cs k v l, drop-set-lt (suc k) cs k v (omega arith)) (simp append-snoc)
 
+-- No cells, nothing moved.
+passed-none : (hs : List Hop) (t coming : ℕ) → passed hs t coming [] ≡ []
+unfolding passed delivering
+passed-none [] t coming = refl
+passed-none (h ∷ hs) t coming = refl
+
 -- On the way up a route: `node` is next, its queue is cell k, and `goal` is to come out.
 pub record Moving (hop : ℕ → Hop) (p : List ℕ) (t : ℕ) (goal cs : List ℕ) (coming k node : ℕ) : Type 0 where
   pub nine : length cs ≡ 9
-  pub room : k + length (route p node) ≤ 8
+  pub room : k ≤ 9
   pub fits : total cs + coming ≤ 4294967295
   pub rest : goal ≡ onward (hopsAlong hop (route p node)) t k coming cs
 
 module _ (hop : ℕ → Hop) (p : List ℕ) (t : ℕ) where
-  module _ (x v node : ℕ) (cs : List ℕ) (m : Movable cs x (route p node)) (e : v ≡ getD cs 0 0 + x) where
+  module _ (x v node : ℕ) (cs : List ℕ) (m : Movable cs x) (e : v ≡ getD cs 0 0 + x) where
     pub moving-start : Moving hop p t (onward (hopsAlong hop (route p node)) t 0 0 (set cs 0 v)) (set cs 0 v) 0 0 node
     moving-start = record {
       nine = length-set cs 0 v ∙ m .nine;
-      room = omega (arith, m .short);
+      room = omega arith;
       fits = omega (arith, m .fits, total-set cs 0 v (omega (arith, m .nine)));
       rest = refl;
     }
@@ -169,34 +175,42 @@ module _ (hop : ℕ → Hop) (p : List ℕ) (t : ℕ) where
         go [] l q = absurd (omega arith)
         go (d ∷ ds) l q = rw q
 
-  module _ (goal cs : List ℕ) (coming k node : ℕ) (w : Moving hop p t goal cs coming k node) (u : ℕ) (e : u ≡ up p node) where
-    next : u < node → route p node ≡ node ∷ route p u
-    next l = rw e (route-up p node (rw e at l))
+  module _ (goal cs : List ℕ) (coming k node : ℕ) (w : Moving hop p t goal cs coming k node) where
+    -- There is room for what comes to a queue.
+    pub moving-fits : getD cs k 0 + coming ≤ 4294967295
+    moving-fits = omega (arith, w .fits, getD-total cs k)
 
-    -- There is a queue for the link, and room for what comes to it.
-    pub moving-fits : u < node → (k < 8) × (getD cs k 0 + coming ≤ 4294967295)
-    moving-fits l = (omega (arith, rw (next l) at (w .room)), omega (arith, w .fits, getD-total cs k))
+    -- Behind the last cell nothing is left to move.
+    pub moving-out : 9 ≤ k → cs ≡ goal
+    unfolding onward
+    moving-out l =
+        let end : k ≡ 9 = omega (arith, w .room) in
+        sym (w .rest ∙ rw (end, take-all 9 cs (omega (arith, w .nine)), drop-of-length-le cs {i = 9} (omega (arith, w .nine)))
+        (ap (λ (r : List ℕ). cs ++ r) (passed-none (hopsAlong hop (route p node)) t coming) ∙ append-nil cs))
 
-    pub moving-more : u < node → (m : ℕ) → m ≡ moved (hop node) t (getD cs k 0)
-        → Moving hop p t goal (set cs k (getD cs k 0 + coming - m)) m (k + 1) u
-    unfolding hopsAlong
-    moving-more l m q =
-        let most : m ≤ getD cs k 0 = rw q (moved-most (hop node) t (getD cs k 0)) in
-        let here : k < length cs = omega (arith, w .nine, moving-fits l .0) in
-        let v : getD cs k 0 + coming - m ≡ getD cs k 0 - m + coming = omega arith in
-        let room : k + length (node ∷ route p u) ≤ 8 = rw (next l) at (w .room) in
-        record {
-          nine = length-set cs k _ ∙ w .nine;
-          room = omega arith;
-          fits = omega (arith, w .fits, total-set cs k (getD cs k 0 + coming - m) here);
-          rest = w .rest ∙ rw (next l, v, q) (onward-more (hop node) (hopsAlong hop (route p u)) t k coming cs here);
-        }
+    module _ (u : ℕ) (e : u ≡ up p node) where
+      next : u < node → route p node ≡ node ∷ route p u
+      next l = rw e (route-up p node (rw e at l))
 
-    pub moving-end : node ≤ u → set cs 8 (getD cs 8 0 + coming) ≡ goal
-    unfolding onward passed hopsAlong
-    moving-end l =
-        let none : route p node ≡ [] = route-end p node (rw e at l) in
-        sym (w .rest ∙ rw none (delivering-at coming k 8 cs (omega (arith, w .room)) (w .nine)))
+      pub moving-more : k < 9 → u < node → (m : ℕ) → m ≡ moved (hop node) t (getD cs k 0)
+          → Moving hop p t goal (set cs k (getD cs k 0 + coming - m)) m (k + 1) u
+      unfolding hopsAlong
+      moving-more few l m q =
+          let most : m ≤ getD cs k 0 = rw q (moved-most (hop node) t (getD cs k 0)) in
+          let here : k < length cs = omega (arith, w .nine) in
+          let v : getD cs k 0 + coming - m ≡ getD cs k 0 - m + coming = omega arith in
+          record {
+            nine = length-set cs k _ ∙ w .nine;
+            room = omega arith;
+            fits = omega (arith, w .fits, total-set cs k (getD cs k 0 + coming - m) here);
+            rest = w .rest ∙ rw (next l, v, q) (onward-more (hop node) (hopsAlong hop (route p u)) t k coming cs here);
+          }
+
+      pub moving-end : k < 9 → node ≤ u → set cs 8 (getD cs 8 0 + coming) ≡ goal
+      unfolding onward passed hopsAlong
+      moving-end few l =
+          let none : route p node ≡ [] = route-end p node (rw e at l) in
+          sym (w .rest ∙ rw none (delivering-at coming k 8 cs (omega arith) (w .nine)))
 
 -- A link in the one slot that the list is for moves the smaller of queue and width.
 pub moved-in : (sending : List ℕ) (rate node q g m : ℕ) → g ≡ ofLink sending node → m ≡ min q (rate * g) → m ≡ moved (inSlot sending rate node) 0 q
@@ -260,8 +274,7 @@ module _ (s : Site) (t : ℕ) (cs₀ xs : List ℕ) (m : AllMovable s cs₀ xs) 
       unfolding live
       living = eq-eqb _ _ on
 
-      pub stepping-ready : Movable (take (9 * n + 9 - 9 * n) (drop (9 * n) cs)) (getD xs n 0) (route (s .parents) (getD (s .entries) n 0))
-      unfolding routeOf
+      pub stepping-ready : Movable (take (9 * n + 9 - 9 * n) (drop (9 * n) cs)) (getD xs n 0)
       stepping-ready = rw cells-lent (m .each n l living)
 
       pub stepping-live : (sending ys : List ℕ) → GapsIn s t sending

@@ -1,8 +1,10 @@
--- Right because the site is judged before the parent, and then the search gives the child.
+-- Right because the site is judged before the lookup.
 use borrow.Author.Needs.{needs}
-use Rattle.simulation.proofs.Laws.Answers.{sender-site, sender-parent, sender-found}
+use Rattle.simulation.proofs.Laws.Answers.{sender-site, sender-passes}
 use Rattle.simulation.proofs.sender.Statement.{statement}
 use Rattle.simulation.proofs.sender.Tie as tie
+use Rattle.limits.proofs.passes.Reads as passes-reads
+use Rattle.simulation.proofs.look_up.Reads as look-up-reads
 
 passes-requires : tie.Need-passes-requires
 passes-requires c κs = search needs
@@ -10,17 +12,11 @@ passes-requires c κs = search needs
 returns : tie.Need-returns
 returns c = sender-site _ _ _ _ (c .before .passes .ensures) (c .if1 .taken)
 
+look-up-requires : tie.Need-look-up-requires
+look-up-requires c κs = search needs
+
 returns-2 : tie.Need-returns-2
-returns-2 c = sender-parent _ _ _ _ (c .before .before .before .passes .ensures) (c .before .before .if1 .left) (search needs)
-
-sending-child-requires : tie.Need-sending-child-requires
-sending-child-requires c κs = search needs
-
-returns-3 : tie.Need-returns-3
-returns-3 c =
-    sender-found _ _ _ _ (c .before .before .before .before .passes .ensures) (c .before .before .before .if1 .left) _ (search needs)
-    (c .sending-child .ensures)
+returns-2 c = sender-passes _ _ _ _ (c .before .before .passes .ensures) (c .before .if1 .left) _ (c .look-up .ensures)
 
 pub sender-spec : {M : Type 1} → statement M
-sender-spec =
-    tie.close (tie.spec passes-requires returns returns-2 sending-child-requires returns-3)
+sender-spec = tie.close (tie.spec passes-requires returns look-up-requires returns-2)

@@ -1,48 +1,43 @@
--- Right because the verdict is that of the checks, and packets are moved only where it accepts.
-use mathlib.Core.Path.{sym, _∙_, ap}
-use Rattle.schedule.specs.Judge.{ruling}
-use Rattle.simulation.specs.Slot.{slotOf}
-use Rattle.simulation.proofs.Laws.{slot-ready}
-use Rattle.simulation.proofs.Laws.Answers.{recount-accepted, recount-refused}
+-- Right because 1 and 14 are judged first, and a site that passes 14 has the slot of the other checks.
 use borrow.Author.Needs.{needs}
+use mathlib.Core.Path.{sym, _∙_}
+use Rattle.limits.proofs.Laws.{passes-sound, call-when}
+use Rattle.simulation.proofs.Laws.{slot-advances}
+use Rattle.simulation.proofs.Laws.Answers.{slot-unlisted, slot-call}
 use Rattle.simulation.proofs.slot.Statement.{statement}
 use Rattle.simulation.proofs.slot.Tie as tie
+use Rattle.limits.proofs.call_fault.Reads as call-fault-reads
+use Rattle.simulation.proofs.advance.Reads as advance-reads
 
-judge-slot-requires : tie.Need-judge-slot-requires
-judge-slot-requires c κs = search needs
+returns : tie.Need-returns
+returns c = slot-unlisted _ _ _ _ _ (c .if1 .taken)
 
-enum-told : tie.Need-enum-told
-enum-told c = search needs
-
-move-all-requires : tie.Need-move-all-requires
-move-all-requires c κs = slot-ready _ _ _ (sym (c .before .before .before .judge-slot .ensures) ∙ ap ruling (c .before .enum-told .given .1))
-
-enum-known-verdict : tie.Need-enum-known-verdict
-enum-known-verdict c = search needs
+call-fault-requires : tie.Need-call-fault-requires
+call-fault-requires c κs = search needs
 
 same-length : tie.Need-same-length
 same-length c = search needs
 
-returns : tie.Need-returns
-unfolding slotOf
-returns c = recount-accepted _ _ (c .before .before .before .before .before .before .judge-slot .ensures) _ _ _ (c .before .before .before .before .enum-told .given .1) (c .before .before .move-all .ensures)
+returns-2 : tie.Need-returns-2
+returns-2 c = slot-call _ _ _ _ _ _ (c .before .call-fault .ensures) (search needs) (c .if2 .taken)
+
+advance-requires : tie.Need-advance-requires
+advance-requires c κs = search needs
 
 same-length-2 : tie.Need-same-length-2
 same-length-2 c = search needs
 
-returns-2 : tie.Need-returns-2
-unfolding slotOf
-returns-2 c = recount-refused _ _ (c .before .before .before .judge-slot .ensures) _ _ _ _ (c .before .verdict .given .1)
+returns-3 : tie.Need-returns-3
+returns-3 c = c .before .before .advance .ensures ∙ sym (slot-advances _ _ _ _ _ (passes-sound _ .1 (call-when _ _ .0 (sym (c .before .before .before .before .before .call-fault .ensures) ∙ c .before .before .before .before .if2 .left) .1)))
 
 pub slot-spec : {M : Type 1} → statement M
 slot-spec =
     tie.close
     (tie.spec
-    judge-slot-requires
-    enum-told
-    move-all-requires
-    enum-known-verdict
-    same-length
     returns
+    call-fault-requires
+    same-length
+    returns-2
+    advance-requires
     same-length-2
-    returns-2)
+    returns-3)
