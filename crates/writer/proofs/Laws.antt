@@ -1,14 +1,20 @@
--- What is proved of the writers by themselves: a LINK tells its node, offset and period. The modules named here hold the lemmas; crate `plan` has what plan
+-- What is proved of the writers by themselves: a LINK tells its node, offset and period, and the checks of a site
+-- change nothing for one that passes them. The modules named here hold the lemmas; crate `plan` has what plan
 -- bytes mean.
 pub mod Write
-use Prim.Native.Nat.{ℕ, _+_, _<_}
-use mathlib.Core.Path.{_≡_}
+use Prim.Native.Nat.{ℕ, _+_, _≤_, _<_}
+use mathlib.Core.Path.{_≡_, refl}
+use mathlib.Core.Bool.{true}
 use mathlib.Core.List.{List, _++_}
 use lib.ListN.{getD, drop}
+use borrow.Author.Tests.{ne-eqb}
 use native.Mathlib.Omega.{arith}
+use Rattle.site.specs.declared.Site.{Site}
+use Rattle.limits.specs.Check.{passesOf}
 use Rattle.format.specs.Bytes.{numberAt, bytesOf}
 use Rattle.format.proofs.Laws.{number-bytes, number-one, byte-at, left-at}
-use Rattle.writer.specs.Write.{linkBytes}
+use Rattle.writer.specs.Write.{linkBytes, encoded, siteFault, writtenIf}
+use Rattle.writer.proofs.Laws.Write.{written-well}
 
 -- The bytes of a LINK, wherever they stand, read back as its node, offset and period, for any values of 16 bits.
 pub link-read : (offsets periods : List ℕ) (i : ℕ) → getD offsets i 0 < 65536 → getD periods i 0 < 65536
@@ -20,3 +26,8 @@ link-read offsets periods i o p bytes rest at e = (
   number-bytes 2 (getD offsets i 0) bytes (bytesOf 2 (getD periods i 0) ++ rest) (at + 2) (omega arith) (left-at bytes at _ 2 e),
   number-bytes 2 (getD periods i 0) bytes rest (at + 4) (omega arith) (left-at bytes at _ 4 e),
 )
+
+-- A site that passes check 14 and has links is written alike with the two checks and without them.
+pub plain-writing : (s : Site) (bytes out : List ℕ) → passesOf s ≡ true → 1 ≤ s .links → encoded s bytes out ≡ writtenIf s bytes out
+unfolding siteFault
+plain-writing s bytes out e some = written-well s bytes out 0 (rw (e, ne-eqb (s .links) 0 (omega arith))) _ refl refl

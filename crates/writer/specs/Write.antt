@@ -49,6 +49,11 @@ scheduleBytes links offsets periods = joined (linkBytes offsets periods) links 0
 unfoldable pub written : List ℕ → List ℕ → Outcome ℕ × List ℕ
 written bytes out = cond (ltb (length out) (length bytes)) (refused 1 0, out) (accepted (length bytes), bytes ++ drop (length bytes) out)
 
+-- The writing where 14 and 9 are not asked: a site with more links than one can have is refused, since it has no entries for them. On every site
+-- that passes the two checks it is the writing with them: the law `plain-writing`.
+unfoldable pub encoded : Site → List ℕ → List ℕ → Outcome ℕ × List ℕ
+encoded s bytes out = cond (ltb 63 (s .links)) (refused 14 0, out) (written bytes out)
+
 -- 01, the checks of a site handed to a writer: the first of 14 and 9 that it fails, 0 where it fails neither.
 unfoldable pub siteFault : Site → ℕ
 siteFault s = cond (passesOf s) (cond (eqb (s .links) 0) 9 0) 14

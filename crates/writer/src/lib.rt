@@ -6,7 +6,7 @@ ghost use lib.ListN.{length};
 ghost use lib.Seq.{sets};
 ghost use Rattle.writer.specs.Write.{writing, nodeBytes, flowBytes, flowIfLive, linkBytes, planBytes, scheduleBytes};
 ghost use Rattle.pinwheel.specs.Search.{joined};
-ghost use Rattle.writer.specs.Write.{written, siteFault, writtenIf};
+ghost use Rattle.writer.specs.Write.{written, encoded, siteFault, writtenIf};
 
 // The number of bytes written, or the number and the place of a refusal.
 pub enum Written {
@@ -174,6 +174,29 @@ fn put_schedule(links: u8, offsets: [u16; 63], periods: [u16; 63], out: &mut [u8
     Written::Length(size)
 }
 
+// The plan bytes of a site whose checks 14 and 9 are not asked here.
+pub fn encode_plan(site: Site, out: &mut [u8]) -> Written
+    ensures { λ r. ⌜ (writing r, now (out .exit)) ≡ encoded site (planBytes site) (now (out .entry)) ⌝ }
+{
+    if 63 < site.links {
+        return Written::Refused(14, 0);
+    }
+    put_plan(site, out)
+}
+
+// The schedule bytes of a site whose checks 14 and 9 are not asked here.
+pub fn encode_schedule(site: Site, out: &mut [u8]) -> Written
+    ensures { λ r. ⌜ (writing r, now (out .exit))
+        ≡ encoded site (scheduleBytes (site .links) (site .offsets) (site .periods)) (now (out .entry)) ⌝ }
+{
+    if 63 < site.links {
+        return Written::Refused(14, 0);
+    }
+    let offsets = site.offsets;
+    let periods = site.periods;
+    put_schedule(site.links, offsets, periods, out)
+}
+
 // 14 and 9 for a site handed to a writer, 0 where it fails neither.
 fn site_fault(site: Site) -> u8
     ensures { λ r. ⌜ r ≡ siteFault site ⌝ }
@@ -195,7 +218,7 @@ pub fn write_plan(site: Site, out: &mut [u8]) -> Written
     if fault != 0 {
         return Written::Refused(fault, 0);
     }
-    put_plan(site, out)
+    encode_plan(site, out)
 }
 
 // The schedule bytes of a site.
@@ -207,7 +230,5 @@ pub fn write_schedule(site: Site, out: &mut [u8]) -> Written
     if fault != 0 {
         return Written::Refused(fault, 0);
     }
-    let offsets = site.offsets;
-    let periods = site.periods;
-    put_schedule(site.links, offsets, periods, out)
+    encode_schedule(site, out)
 }

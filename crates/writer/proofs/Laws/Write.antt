@@ -16,7 +16,7 @@ use Rattle.site.specs.Sites.{live}
 use Rattle.format.specs.Bytes.{bytesOf}
 use Rattle.format.specs.Commands.{sizeOf, scheduleSize}
 use Rattle.limits.specs.Check.{passesOf}
-use Rattle.writer.specs.Write.{nodeBytes, flowBytes, linkBytes, flowIfLive, commandBytes, planBytes, scheduleBytes, written, siteFault, writtenIf}
+use Rattle.writer.specs.Write.{nodeBytes, flowBytes, linkBytes, flowIfLive, commandBytes, planBytes, scheduleBytes, written, encoded, siteFault, writtenIf}
 use Rattle.pinwheel.specs.Search.{joined}
 use Rattle.pinwheel.proofs.Laws.Items.{joined-next}
 use Rattle.limits.proofs.Laws.Check.{passes-few}
@@ -239,12 +239,21 @@ fault-few s e = go (passesOf s) refl e
     go true p q = passes-few s p
     go false p q = absurd (omega arith)
 
--- The answers of the two operations.
-module _ (s : Site) (bytes out : List ℕ) (f : ℕ) (is : f ≡ siteFault s) where
-  pub written-faulty : (f ≡ 0 → ⊥) → (refused f 0, out) ≡ writtenIf s bytes out
-  unfolding writtenIf
-  written-faulty n = rw (← is, ne-eqb _ _ n)
+-- The answers without the two checks, and with them.
+module _ (s : Site) (bytes out : List ℕ) where
+  pub encoded-many : 63 < s .links → (refused 14 0, out) ≡ encoded s bytes out
+  unfolding encoded
+  encoded-many l = rw (lt-ltb _ _ l)
 
-  pub written-well : (a : Outcome ℕ × List ℕ) → f ≡ 0 → a ≡ written bytes out → a ≡ writtenIf s bytes out
-  unfolding writtenIf
-  written-well a z q = rw (← is, eq-eqb _ _ z) q
+  pub encoded-few : s .links ≤ 63 → (a : Outcome ℕ × List ℕ) → a ≡ written bytes out → a ≡ encoded s bytes out
+  unfolding encoded
+  encoded-few l a q = q ∙ rw (le-ltb _ _ l)
+
+  module _ (f : ℕ) (is : f ≡ siteFault s) where
+    pub written-faulty : (f ≡ 0 → ⊥) → (refused f 0, out) ≡ writtenIf s bytes out
+    unfolding writtenIf
+    written-faulty n = rw (← is, ne-eqb _ _ n)
+
+    pub written-well : (a : Outcome ℕ × List ℕ) → f ≡ 0 → a ≡ encoded s bytes out → a ≡ writtenIf s bytes out
+    unfolding writtenIf encoded
+    written-well a z q = q ∙ rw (le-ltb _ _ (fault-few s (sym is ∙ z)), ← is, eq-eqb _ _ z)
