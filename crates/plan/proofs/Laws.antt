@@ -8,6 +8,7 @@ pub mod FromSites
 pub mod Faults
 pub mod Acceptance
 pub mod Refusals
+pub mod Near
 use Prim.Native.Nat.{ℕ, _+_, _≤_}
 use mathlib.Core.Path.{_≡_, refl, sym, _∙_, ap}
 use mathlib.Core.Bool.{true}

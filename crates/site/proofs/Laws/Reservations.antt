@@ -121,7 +121,7 @@ link-le xs most b zero = omega arith
 link-le xs most b (suc i) = b i
 
 -- A sum over numbers.
-sum-more : (f : ℕ → ℕ) (k : ℕ) → sumTo f (k + 1) ≡ sumTo f k + f k
+pub sum-more : (f : ℕ → ℕ) (k : ℕ) → sumTo f (k + 1) ≡ sumTo f k + f k
 unfolding sumTo
 sum-more f k = rw add-one
 

@@ -1,0 +1,3 @@
+-- front
+pub mod Told
+pub mod Calls

@@ -1,0 +1,162 @@
+-- One law for each way that a host's call ends. The site is the one that the plan bytes read to.
+use Prim.Native.Nat.{ℕ, _≤_, _<_, _+_, _*_}
+use mathlib.Core.Path.{_≡_, refl, sym, _∙_, ap}
+use mathlib.Core.Bool.{true}
+use mathlib.Core.Logic.{inr}
+use mathlib.Core.List.{List}
+use lib.ListN.{length}
+use borrow.Author.Tests.{le-leb, eq-eqb, ne-eqb}
+use native.Mathlib.Omega.{arith}
+use Rattle.pinwheel.specs.Outcome.{Outcome, Ruling, accepted, refused, settled}
+use Rattle.site.specs.declared.Site.{Site}
+use Rattle.site.specs.declared.Flow.{Flow}
+use Rattle.site.specs.Sites.{withFlow, withoutFlow, withSchedule}
+use Rattle.site.specs.Reservations.{delayBound}
+use Rattle.schedule.specs.declared.Verdict.{Verdict}
+use Rattle.schedule.specs.declared.Verdict.the-variants.{Accepted, Refused}
+use Rattle.schedule.specs.Schedule.{scheduled}
+use Rattle.schedule.specs.Judge.{ruling, withSite}
+use Rattle.schedule.proofs.Laws.Rulings.{site-accepted, site-refused}
+use Rattle.limits.specs.Check.{passesOf, callFault}
+use Rattle.limits.proofs.Laws.{passes-sound, call-when, flow-taken}
+use Rattle.counters.specs.Blocks.{withCells, zeros, cleared}
+use Rattle.format.specs.Words.{Bytes}
+use Rattle.reader.specs.Read.{readOf}
+use Rattle.writer.specs.Write.{planBytes, scheduleBytes, encoded, writtenIf}
+use Rattle.writer.proofs.Laws.{plain-writing}
+use Rattle.plan.proofs.Laws.{passes-when}
+use Rattle.plan.proofs.Laws.Acceptance.{read-form}
+use Rattle.plan.proofs.Laws.Near.{read-near}
+use Rattle.admission.specs.Calls.{change, flowRuling, admitRuling, admitOf, numberRuling, releaseRuling, releaseOf}
+use Rattle.admission.proofs.Laws.{admits-when, releases-when, admitted-passes}
+use Rattle.admission.proofs.Laws.Answers.{call-passes}
+use Rattle.simulation.specs.Sender.{senderOf, lookupOf}
+use Rattle.simulation.specs.Hops.{own}
+use Rattle.simulation.specs.Slot.{slotOf, advanceOf, startOf}
+use Rattle.simulation.proofs.Laws.{slot-advances, sender-looks}
+use Rattle.simulation.proofs.Laws.Answers.{start-passes}
+use Rattle.embed.specs.Calls.{valued, byReading, onSite, ofLength, stored, rewritten, answered}
+use Rattle.embed.specs.Inner.{Standing}
+
+-- Some bytes read to the site, so it passes check 14 and has links.
+pub read-standing : (bytes : List ℕ) → Bytes bytes → (s : Site) → readOf bytes ≡ accepted s → Standing s
+unfolding scheduled withSchedule
+read-standing bytes small s e =
+    let w = read-form bytes small s e in record { sound = passes-when s .1 (inr (bytes, small, e)); some = rw (w .3) (w .1 .some) }
+
+-- What the reader answers: `v` and `s` are its verdict and its site.
+module _ (bytes : List ℕ) (v : Verdict) (s : Site) (e : (ruling v, s) ≡ withSite (readOf bytes)) where
+  pub read-yes : v ≡ Accepted → readOf bytes ≡ accepted s
+  read-yes q = site-accepted (readOf bytes) s (rw q at e)
+
+  pub read-no : (number place : ℕ) → v ≡ Refused number place → readOf bytes ≡ refused number place
+  read-no number place q = site-refused (readOf bytes) s number place (rw q at e)
+
+  pub read-close : Bytes bytes → (number place : ℕ) → v ≡ Refused number place → (1 ≤ number) × (place ≤ 763)
+  read-close small number place q = read-near bytes small number place (read-no number place q)
+
+  module _ {A : Type 0} (f : Site → A) where
+    pub by-yes : (other : ℕ → ℕ → A) → v ≡ Accepted → f s ≡ byReading (readOf bytes) other f
+    unfolding byReading
+    by-yes other q = rw (read-yes q)
+
+    pub by-no : (other : ℕ → ℕ → A) (number place : ℕ) → v ≡ Refused number place → other number place ≡ byReading (readOf bytes) other f
+    unfolding byReading
+    by-no other number place q = rw (read-no number place q)
+
+    pub on-yes : (a : A) → v ≡ Accepted → f s ≡ onSite bytes a f
+    unfolding onSite
+    on-yes a q = by-yes (λ number place. a) q
+
+    pub on-no : (a : A) (number place : ℕ) → v ≡ Refused number place → a ≡ onSite bytes a f
+    unfolding onSite
+    on-no a number place q = by-no (λ m p. a) number place q
+
+-- A list of the right length, and another one.
+module _ {A : Type 0} (list : List ℕ) (n : ℕ) (a b : A) where
+  pub of-length : length list ≡ n → b ≡ ofLength list n a b
+  unfolding ofLength
+  of-length e = rw (eq-eqb _ _ e)
+
+  pub off-length : (length list ≡ n → ⊥) → a ≡ ofLength list n a b
+  unfolding ofLength
+  off-length e = rw (ne-eqb _ _ e)
+
+-- What a standing site answers, whose check 14 need not be asked again.
+module _ (s : Site) (w : Standing s) where
+  pub stands-written : (bytes out : List ℕ) → encoded s bytes out ≡ writtenIf s bytes out
+  stands-written bytes out = plain-writing s bytes out (w .sound) (w .some)
+
+  pub stands-found : (p t : ℕ) → lookupOf s p t ≡ senderOf s p t
+  stands-found p t = sym (sender-looks s p t (w .sound))
+
+  pub stands-advanced : (cs xs : List ℕ) (t : ℕ) → advanceOf own s cs xs t ≡ slotOf own s cs xs t
+  stands-advanced cs xs t = sym (slot-advances own s cs xs t (w .sound))
+
+  module _ (cs : List ℕ) (counted : length cs ≡ 576) where
+    unfaulted : callFault s cs ≡ 0
+    unfaulted = call-when s cs .1 (counted, passes-sound s .0 (w .sound))
+
+    pub stands-started : (ds : List ℕ) → ds ≡ zeros (length cs) → (accepted 0, ds) ≡ answered (startOf s cs)
+    unfolding answered valued
+    stands-started ds e = ap answered (start-passes s cs 0 (sym unfaulted) refl ds e counted)
+
+    -- An admission: what its own checks say is what the whole call says.
+    module _ (f : Flow) where
+      admit-ruled : admitRuling s cs f ≡ flowRuling s f
+      unfolding admitRuling
+      admit-ruled = sym (call-passes s cs 0 (sym unfaulted) (flowRuling s f) refl (flowRuling s f) refl)
+
+      pub admit-no : (out : List ℕ) (number place : ℕ) → refused number place ≡ flowRuling s f
+          → (refused number place, cs, out) ≡ rewritten (admitOf s cs f) cs out
+      unfolding admitOf change settled rewritten
+      admit-no out number place e = rw (admit-ruled, ← e)
+
+      module _ (e : accepted tt ≡ flowRuling s f) where
+        pub admit-number : f .number < 64
+        admit-number = let w = admits-when s cs f .0 (admit-ruled ∙ sym e) in omega (arith, w .good .within .number-most)
+
+        pub admit-standing : Standing (withFlow s f)
+        unfolding withFlow
+        admit-standing = record { sound = admitted-passes s cs f (admits-when s cs f .0 (admit-ruled ∙ sym e)); some = w .some }
+
+        pub admit-yes : (out : List ℕ)
+            → stored (writtenIf (withFlow s f) (planBytes (withFlow s f)) out) (withCells (f .number) (zeros 9) cs) cs ≡ rewritten (admitOf s cs f) cs out
+        unfolding admitOf change settled rewritten
+        admit-yes out = rw (admit-ruled, ← e)
+
+    -- A release likewise.
+    module _ (n : ℕ) where
+      release-ruled : releaseRuling s cs n ≡ numberRuling s n
+      unfolding releaseRuling
+      release-ruled = sym (call-passes s cs 0 (sym unfaulted) (numberRuling s n) refl (numberRuling s n) refl)
+
+      pub release-no : (out : List ℕ) (number place : ℕ) → refused number place ≡ numberRuling s n
+          → (refused number place, cs, out) ≡ rewritten (releaseOf s cs n) cs out
+      unfolding releaseOf change settled rewritten
+      release-no out number place e = rw (release-ruled, ← e)
+
+      module _ (e : accepted tt ≡ numberRuling s n) where
+        pub release-number : n < 64
+        release-number = let w = releases-when s cs n .0 (release-ruled ∙ sym e) in omega (arith, w .few)
+
+        pub release-standing : Standing (withoutFlow s n)
+        unfolding withoutFlow
+        release-standing = record { sound = flow-taken s (w .sound) n; some = w .some }
+
+        pub release-yes : (out : List ℕ)
+            → stored (writtenIf (withoutFlow s n) (planBytes (withoutFlow s n)) out) (withCells n (zeros 9) cs) cs ≡ rewritten (releaseOf s cs n) cs out
+        unfolding releaseOf change settled rewritten
+        release-yes out = rw (release-ruled, ← e)
+
+-- What is left by the writing: `a` is what it comes to.
+module _ (a : Outcome ℕ × List ℕ) (bytes cs : List ℕ) where
+  pub stored-yes : (size n : ℕ) → n < 64 → length cs ≡ 576 → (accepted size, bytes) ≡ a → (ds : List ℕ) → ds ≡ cleared n cs
+      → (accepted size, ds, bytes) ≡ stored a (withCells n (zeros 9) cs) cs
+  unfolding stored cleared
+  stored-yes size n l counted e ds q =
+      let k : ds ≡ withCells n (zeros 9) cs = q ∙ rw (le-leb (9 * n + 9) (length cs) (omega arith)) in rw (← e, k)
+
+  pub stored-no : (number place : ℕ) (new : List ℕ) → (refused number place, bytes) ≡ a → (refused number place, cs, bytes) ≡ stored a new cs
+  unfolding stored
+  stored-no number place new e = rw (← e)

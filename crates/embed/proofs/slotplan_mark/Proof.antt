@@ -1,0 +1,46 @@
+-- Right because the plan is counted where it is read to a site, and else the refusal of the reading is told.
+use borrow.Author.Needs.{needs}
+use mathlib.Core.Path.{_∙_}
+use native.Mathlib.Omega.{arith}
+use Rattle.embed.specs.Calls.{markOf}
+use Rattle.embed.proofs.Laws.Calls.{read-close, by-yes, by-no}
+use Rattle.embed.proofs.slotplan_mark.Statement.{statement}
+use Rattle.embed.proofs.slotplan_mark.Tie as tie
+use Rattle.embed.proofs.answers.refusal.Reads as refusal-reads
+use Rattle.embed.proofs.answers.sizes.Reads as sizes-reads
+use Rattle.reader.proofs.read_plan.Reads as read-plan-reads
+
+read-plan-requires : tie.Need-read-plan-requires
+read-plan-requires c κs = search needs
+
+enum-told : tie.Need-enum-told
+enum-told c = search needs
+
+sizes-requires : tie.Need-sizes-requires
+sizes-requires c κs = search needs
+
+enum-known-verdict : tie.Need-enum-known-verdict
+enum-known-verdict c = search needs
+
+refusal-requires : tie.Need-refusal-requires
+refusal-requires c κs = read-close _ _ _ (c .before .before .before .read-plan .ensures) (λ i. omega (arith, c .before .before .before .before .shared-slice-known .given i)) _ _ (c .before .verdict .given .1)
+
+returns : tie.Need-returns
+unfolding markOf
+returns c = c .sizes .ensures ∙ by-yes _ _ _ (c .before .before .before .read-plan .ensures) _ _ (c .before .enum-told .given .1)
+
+returns-2 : tie.Need-returns-2
+unfolding markOf
+returns-2 c = c .refusal .ensures ∙ by-no _ _ _ (c .before .before .before .before .read-plan .ensures) _ _ _ _ (c .before .before .verdict .given .1)
+
+pub slotplan-mark-spec : {M : Type 1} → statement M
+slotplan-mark-spec =
+    tie.close
+    (tie.spec
+    read-plan-requires
+    enum-told
+    sizes-requires
+    enum-known-verdict
+    refusal-requires
+    returns
+    returns-2)

@@ -1,0 +1,63 @@
+// What is written of a site that was just read: its schedule, and its plan after a change.
+use crate::answers;
+use crate::answers::refusal;
+use schedule::Verdict;
+use site::Flow;
+use site::Site;
+use writer::Written;
+ghost use mathlib.Core.Path.{_≡_};
+ghost use Prim.Native.Nat.{_<_};
+ghost use lib.ListN.{length};
+ghost use Rattle.counters.specs.Blocks.{withCells, zeros};
+ghost use Rattle.admission.specs.Calls.{admitOf, releaseOf};
+ghost use Rattle.writer.specs.Write.{planBytes, scheduleBytes, writtenIf};
+ghost use Rattle.embed.specs.Calls.{told, stored, rewritten};
+ghost use Rattle.embed.specs.Inner.{Standing};
+
+pub(crate) fn schedule_of(site: Site, out: &mut [u8]) -> u64
+    requires { ⌜ Standing site ⌝ }
+    ensures { λ r. ⌜ (told r, now (out .exit))
+        ≡ writtenIf site (scheduleBytes (site .links) (site .offsets) (site .periods)) (now (out .entry)) ⌝ }
+{
+    answers::size(writer::encode_schedule(site, out))
+}
+
+// The plan of the changed site. The cells are cleared last, since too short a slice is to change nothing.
+fn rewrite(next: Site, counters: &mut [u32], number: u8, out: &mut [u8]) -> u64
+    requires { ⌜ Standing next × (length (now counters) ≡ 576) × (number < 64) ⌝ }
+    ensures { λ r. ⌜ (told r, now (counters .exit), now (out .exit))
+        ≡ stored (writtenIf next (planBytes next) (now (out .entry))) (withCells number (zeros 9) (now (counters .entry))) (now (counters .entry)) ⌝ }
+{
+    let written = writer::encode_plan(next, out);
+    match written {
+        Written::Length(size) => {
+            counters::clear_flow(counters, number);
+            size as u64
+        }
+        Written::Refused(fault, place) => refusal(fault, place),
+    }
+}
+
+pub(crate) fn admitted(site: Site, counters: &mut [u32], flow: Flow, out: &mut [u8]) -> u64
+    requires { ⌜ Standing site × (length (now counters) ≡ 576) ⌝ }
+    ensures { λ r. ⌜ (told r, now (counters .exit), now (out .exit))
+        ≡ rewritten (admitOf site (now (counters .entry)) flow) (now (counters .entry)) (now (out .entry)) ⌝ }
+{
+    let verdict = admission::judge_flow(site, flow);
+    match verdict {
+        Verdict::Accepted => rewrite(site::with_flow(site, flow), counters, flow.number, out),
+        Verdict::Refused(number, place) => refusal(number, place),
+    }
+}
+
+pub(crate) fn released(site: Site, counters: &mut [u32], number: u8, out: &mut [u8]) -> u64
+    requires { ⌜ Standing site × (length (now counters) ≡ 576) ⌝ }
+    ensures { λ r. ⌜ (told r, now (counters .exit), now (out .exit))
+        ≡ rewritten (releaseOf site (now (counters .entry)) number) (now (counters .entry)) (now (out .entry)) ⌝ }
+{
+    let verdict = admission::judge_number(site, number);
+    match verdict {
+        Verdict::Accepted => rewrite(site::without_flow(site, number), counters, number, out),
+        Verdict::Refused(fault, place) => refusal(fault, place),
+    }
+}
