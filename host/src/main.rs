@@ -7,6 +7,7 @@ mod compare;
 mod damage;
 mod expected;
 mod fixed;
+mod library;
 mod lines;
 mod measure;
 mod outcomes;
