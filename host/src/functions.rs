@@ -1,13 +1,11 @@
 //! The nine functions of `include/slotplan.h` as values, so that one implementation can take the place of another.
 
-use crate::library::{self, Answer, NewFlow};
+use crate::library::{self, Answer, Marked, NewFlow};
 use crate::model;
-use crate::rules::Refusal;
 
 #[derive(Clone, Copy)]
 pub struct Functions {
-    /// The links and the flows.
-    pub mark: fn(&[u8]) -> Result<(u64, u64), Refusal>,
+    pub mark: fn(&[u8]) -> Marked,
     pub schedule: fn(&[u8], &mut [u8]) -> Answer,
     pub admit: fn(&[u8], &mut [u32], NewFlow, &mut [u8]) -> Answer,
     pub release: fn(&[u8], &mut [u32], u8, &mut [u8]) -> Answer,

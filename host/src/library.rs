@@ -59,7 +59,10 @@ pub mod declared {
 /// The value of an answer, or its number and place.
 pub type Answer = Result<u64, Refusal>;
 
-fn told(answer: u64) -> Answer {
+/// How many links and how many flows a plan has.
+pub type Marked = Result<(u64, u64), Refusal>;
+
+pub fn told(answer: u64) -> Answer {
     let rest = answer & ((1 << 56) - 1);
     match answer >> 56 {
         0 => Ok(rest),
@@ -70,8 +73,7 @@ fn told(answer: u64) -> Answer {
     }
 }
 
-/// The links and the flows.
-pub fn mark(plan: &[u8]) -> Result<(u64, u64), Refusal> {
+pub fn mark(plan: &[u8]) -> Marked {
     let answer = unsafe { declared::slotplan_mark(plan.as_ptr(), plan.len()) };
     told(answer).map(|value| (value & 255, value >> 8))
 }

@@ -1,5 +1,6 @@
 //! A second implementation of document 01, for comparison with the programs under crates/.
 
+mod bad_hosts;
 mod bytes;
 mod call_lines;
 mod calls;
@@ -34,7 +35,7 @@ use std::path::Path;
 use std::process::ExitCode;
 
 const USAGE: &str = "host expected [--write]\nhost random N SEED [--bin DIR]\nhost watch N SEED\n\
-    host library N SEED\nhost measure PLAN_FILE";
+    host library N SEED\nhost bad-hosts N SEED\nhost measure PLAN_FILE";
 
 fn random(count: &str, seed: &str, folder: &str) -> Option<u8> {
     let (count, seed) = (count.parse().ok()?, seed.parse().ok()?);
@@ -51,6 +52,11 @@ fn library(count: &str, seed: &str) -> Option<u8> {
     Some(compare_library::compare_library(count, seed))
 }
 
+fn bad_hosts(count: &str, seed: &str) -> Option<u8> {
+    let (count, seed) = (count.parse().ok()?, seed.parse().ok()?);
+    Some(bad_hosts::try_bad_hosts(count, seed))
+}
+
 fn main() -> ExitCode {
     let words: Vec<String> = std::env::args().skip(1).collect();
     let words: Vec<&str> = words.iter().map(String::as_str).collect();
@@ -61,6 +67,7 @@ fn main() -> ExitCode {
         ["random", count, seed, "--bin", folder] => random(count, seed, folder),
         ["watch", count, seed] => watch(count, seed),
         ["library", count, seed] => library(count, seed),
+        ["bad-hosts", count, seed] => bad_hosts(count, seed),
         ["measure", path] => Some(measure::measure(path)),
         _ => None,
     };

@@ -2,12 +2,11 @@
 
 use crate::bytes::{read_plan, write_plan, write_schedule};
 use crate::calls::{self, admission, COUNTERS};
-use crate::library::{Answer, NewFlow};
+use crate::library::{Answer, Marked, NewFlow};
 use crate::rules::{refuse, slot_rule, Flow, Refusal, Site, FLOW_NUMBERS};
 use crate::slots;
 
-/// The links and the flows.
-pub fn mark(plan: &[u8]) -> Result<(u64, u64), Refusal> {
+pub fn mark(plan: &[u8]) -> Marked {
     let site = read_plan(plan)?;
     Ok((site.links, site.live_flows().len() as u64))
 }
