@@ -35,10 +35,10 @@ fn main() {
         Some(folder) => PathBuf::from(folder),
         None => built(&Path::new(env!("CARGO_MANIFEST_DIR")).join("..")),
     };
-    println!(
-        "cargo:rerun-if-changed={}",
-        folder.join("libembed.a").display()
-    );
+    let archive = folder.join("libembed.a");
+    println!("cargo:rerun-if-changed={}", archive.display());
+    // A test compiles a host in C and links it with the same archive.
+    println!("cargo:rustc-env=SLOTPLAN_ARCHIVE={}", archive.display());
     println!("cargo:rustc-link-search=native={}", folder.display());
     println!("cargo:rustc-link-lib=static=embed");
 }

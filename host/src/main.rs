@@ -2,11 +2,15 @@
 
 mod bad_hosts;
 mod bytes;
+#[cfg(test)]
+mod c_hosts;
 mod call_lines;
 mod calls;
 mod compare;
 mod compare_library;
 mod damage;
+#[cfg(test)]
+mod declarations;
 mod expected;
 mod fixed;
 mod functions;
