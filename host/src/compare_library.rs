@@ -308,6 +308,7 @@ mod tests {
         let Call::Deal { gaps, .. } = &difference.list.steps[0].call else {
             panic!("{difference}");
         };
+        assert!(gaps.len() <= 3, "{difference}");
         let gaps: String = gaps.iter().map(|gap| format!(" {gap:04X}")).collect();
         shows(&difference, &format!("deal{gaps}, offsets "));
     }

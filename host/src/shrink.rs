@@ -21,6 +21,7 @@ pub fn shrink(list: List, differs: &dyn Fn(&List) -> bool) -> List {
         shrinking.drop_commands();
         shrinking.clear_counters();
         shrinking.clear_arrivals();
+        shrinking.drop_gaps();
         if shrinking.list == before {
             return before;
         }
@@ -130,6 +131,31 @@ impl Shrinking<'_> {
                 }
             }
         }
+    }
+
+    /// A gap goes with its offset and its period.
+    fn drop_gaps(&mut self) {
+        for index in 0..self.list.steps.len() {
+            let Call::Deal { gaps, .. } = &self.list.steps[index].call else {
+                continue;
+            };
+            for child in (0..gaps.len()).rev() {
+                self.attempt_with(|list| drop_gap(&mut list.steps[index].call, child));
+            }
+        }
+    }
+}
+
+fn drop_gap(call: &mut Call, child: usize) {
+    if let Call::Deal {
+        gaps,
+        offsets,
+        periods,
+    } = call
+    {
+        gaps.remove(child);
+        *offsets = offsets.saturating_sub(1);
+        *periods = periods.saturating_sub(1);
     }
 }
 
