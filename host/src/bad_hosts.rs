@@ -77,7 +77,7 @@ struct Host {
     out: Lent<u8>,
 }
 
-/// What a host objects to: a write where there must be none.
+/// The answer to a call, or what the host objects to: a write where there must be none.
 type Judged = Result<Answer, String>;
 
 impl Host {
@@ -89,7 +89,8 @@ impl Host {
             && self.out.is_unchanged_but(&parts.out)
             && self.counters.is_unchanged_but(&parts.counters);
         if !holds {
-            return Err(self.objection(name, answer));
+            let what = format!("{name}: memory changed, answer {answer:?}");
+            return Err(self.objection(&what));
         }
         if answer.is_ok() {
             self.out.restore();
@@ -98,13 +99,12 @@ impl Host {
         Ok(answer)
     }
 
-    fn objection(&self, what: &str, answer: Answer) -> String {
+    fn objection(&self, what: &str) -> String {
         let plan = &self.plan.as_lent[self.plan.margin..][..self.plan.len()];
         let lengths = [self.counters.len(), self.arrivals.len(), self.out.len()];
         let [counters, arrivals, out] = lengths;
         format!(
-            "{what}: memory changed, answer {answer:?}\n\
-            counters {counters} arrivals {arrivals} room {out}\nplan{}",
+            "{what}\ncounters {counters} arrivals {arrivals} room {out}\nplan{}",
             hex(plan)
         )
     }
@@ -359,8 +359,8 @@ impl BadHosts {
         let expected = expected_refusals(marked, [counted, listed]);
         let agree = marked.is_ok() || [scheduled, admitted, passed] == expected;
         if !agree {
-            let found = format!("{scheduled:?} {admitted:?} {passed:?}");
-            return Err(host.objection(&format!("answers {found} do not agree"), marked));
+            let others = format!("{scheduled:?}, {admitted:?}, {passed:?}");
+            return Err(host.objection(&format!("mark {marked:?}, but then {others}")));
         }
         Ok(())
     }
