@@ -241,7 +241,7 @@ impl Comparison {
 }
 
 /// Prints the result, the last line of a command. The exit status: 0 without a difference, 1 with one.
-fn status_of(result: Result<(), String>, without: &str) -> u8 {
+pub fn status_of(result: Result<(), String>, without: &str) -> u8 {
     match result {
         Ok(()) => {
             println!("{without}");

@@ -71,7 +71,8 @@ fn random_operand(random: &mut Random, width: usize, index: usize) -> u64 {
     random.pick(&[0, 1, 62, 63, 64, 65, 254, 255, index, index + 1, index + 2])
 }
 
-fn damage_bytes(random: &mut Random, bytes: &mut Vec<u8>) {
+/// A change of bytes, of which there is at least one.
+pub fn damage_bytes(random: &mut Random, bytes: &mut Vec<u8>) {
     let place = random.index(bytes.len());
     match random.between(0, 12) {
         0..=2 => bytes[place] = random.byte(),

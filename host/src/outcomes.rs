@@ -59,6 +59,27 @@ pub const SESSIONS: &[Call] = &[
     call(["", ""], &["error"], &[]),
 ];
 
+/// The functions of the library, with the checks that the header lists for each.
+pub const FUNCTIONS: &[Call] = &[
+    call(
+        ["mark", "mark "],
+        ACCEPTED,
+        &[2, 3, 4, 5, 6, 7, 8, 9, 10, 11, 12, 13],
+    ),
+    call(
+        ["schedule", "schedule "],
+        ACCEPTED,
+        &[2, 3, 4, 5, 6, 7, 8, 9, 10, 11, 12, 13, 1],
+    ),
+    call(["admit", "admit "], ACCEPTED, &[1, 14, 5, 6, 15, 17, 18]),
+    call(["release", "release "], ACCEPTED, &[1, 14, 5, 16]),
+    call(["start", "start "], ACCEPTED, &[1, 14]),
+    call(["slot", "slot "], ACCEPTED, &[1, 14, 19, 20]),
+    call(["sender", "sender "], ACCEPTED, &[14, 6]),
+    call(["bound", "bound "], ACCEPTED, &[14, 5, 16]),
+    call(["deal", "deal "], ACCEPTED, &[1, 5, 11]),
+];
+
 struct Outcome {
     line_begins: &'static str,
     answer_begins: String,
@@ -111,6 +132,13 @@ impl Tally {
     #[cfg(test)]
     pub fn all_reach(&self, least: u64) -> bool {
         self.outcomes.iter().all(|outcome| outcome.count >= least)
+    }
+
+    /// Whether each call was accepted this often.
+    #[cfg(test)]
+    pub fn all_accepted(&self, least: u64) -> bool {
+        let mut outcomes = self.outcomes.iter();
+        outcomes.all(|outcome| outcome.count >= least || outcome.answer_begins != "accepted")
     }
 }
 

@@ -95,8 +95,8 @@ fn gap_count(random: &mut Random) -> usize {
     }
 }
 
-fn gap_list(random: &mut Random) -> Vec<u64> {
-    let count = gap_count(random);
+/// A list of gaps that fit or not, a few of them outside their limits. There may be more than 01 allows.
+pub fn gap_list(random: &mut Random, count: usize) -> Vec<u64> {
     if count == 0 {
         return Vec::new();
     }
@@ -114,7 +114,8 @@ fn gap_list(random: &mut Random) -> Vec<u64> {
 
 /// A line for the program test_deals.
 pub fn deals_line(random: &mut Random) -> String {
-    let gaps = gap_list(random);
+    let count = gap_count(random);
+    let gaps = gap_list(random, count);
     let offsets = list_length(random, gaps.len());
     let periods = if random.chance(90) {
         gaps.len()

@@ -1,0 +1,44 @@
+//! Builds the proved library and links it. SLOTPLAN_LIBRARY names a folder with a libembed.a that is to be taken instead.
+
+use std::env;
+use std::path::{Path, PathBuf};
+use std::process::Command;
+
+const FOLDER: &str = "SLOTPLAN_LIBRARY";
+
+/// The archive that `rt staticlib embed` writes once it has proved the crate and all that it rests on.
+fn built(top: &Path) -> PathBuf {
+    println!("cargo:rerun-if-changed={}", top.join("crates").display());
+    println!(
+        "cargo:rerun-if-changed={}",
+        top.join("crates.txt").display()
+    );
+    let archive = top.join("target/staticlib/libembed.a");
+    println!("cargo:rerun-if-changed={}", archive.display());
+    let run = Command::new("rt")
+        .args(["staticlib", "embed"])
+        .current_dir(top)
+        .status();
+    match run {
+        Ok(status) if status.success() => archive.with_file_name(""),
+        Ok(status) => panic!("`rt staticlib embed` ended with {status}"),
+        Err(error) => panic!(
+            "`rt`: {error}. Install the Rattle kit and put rt on the path, or name a folder with libembed.a in {FOLDER}"
+        ),
+    }
+}
+
+fn main() {
+    println!("cargo:rerun-if-changed=build.rs");
+    println!("cargo:rerun-if-env-changed={FOLDER}");
+    let folder = match env::var_os(FOLDER) {
+        Some(folder) => PathBuf::from(folder),
+        None => built(&Path::new(env!("CARGO_MANIFEST_DIR")).join("..")),
+    };
+    let archive = folder.join("libembed.a");
+    println!("cargo:rerun-if-changed={}", archive.display());
+    // A test compiles a host in C and links it with the same archive.
+    println!("cargo:rustc-env=SLOTPLAN_ARCHIVE={}", archive.display());
+    println!("cargo:rustc-link-search=native={}", folder.display());
+    println!("cargo:rustc-link-lib=static=embed");
+}

@@ -1,0 +1,315 @@
+//! The compiled library against this implementation, in one process, on random lists of calls.
+
+use crate::compare::status_of;
+use crate::functions::{LIBRARY, MODEL};
+use crate::host_calls::{shown_answer, List, Memory, Pair, Step};
+use crate::library::Answer;
+use crate::outcomes::{Tally, FUNCTIONS};
+use crate::programs::Answered;
+use crate::random::Random;
+use crate::random_hosts::{dealt_list, marked_list, Host};
+use crate::shrink::shrink;
+use std::fmt;
+
+/// A list that differs, made small, and the difference in words.
+#[derive(Debug)]
+struct Difference {
+    list: List,
+    what: String,
+}
+
+impl fmt::Display for Difference {
+    fn fmt(&self, form: &mut fmt::Formatter) -> fmt::Result {
+        write!(form, "{}\ninput:\n{}", self.what, self.list)
+    }
+}
+
+/// Each case is one call of which the answer and all memory are compared.
+struct Comparison {
+    pair: Pair,
+    tally: Tally,
+    cases: u64,
+}
+
+impl Comparison {
+    fn new(pair: Pair) -> Comparison {
+        Comparison {
+            pair,
+            tally: Tally::new("calls of the library", FUNCTIONS),
+            cases: 0,
+        }
+    }
+
+    fn run(&mut self, count: u64, random: &mut Random) -> Result<(), Difference> {
+        while self.cases < count {
+            match random.between(0, 9) {
+                0..=3 => self.compare_list(marked_list(random))?,
+                4..=7 => self.compare_list(dealt_list(random))?,
+                _ => self.compare_host(random)?,
+            }
+        }
+        Ok(())
+    }
+
+    fn compare_list(&mut self, list: List) -> Result<(), Difference> {
+        let mut memory = Memory::of(&list.plan);
+        for (index, step) in list.steps.iter().enumerate() {
+            let before = memory.clone();
+            if self.compare_step(&mut memory, step).is_err() {
+                let steps = list.steps[..=index].to_vec();
+                let plan = list.plan.clone();
+                return Err(self.difference(&before, List { plan, steps }));
+            }
+        }
+        Ok(())
+    }
+
+    /// The calls of one host, each made in view of what the last one left.
+    fn compare_host(&mut self, random: &mut Random) -> Result<(), Difference> {
+        let mut host = Host::new(random);
+        let (plan, mut steps) = (host.memory.plan.clone(), Vec::new());
+        for _ in 0..random.between(5, 40) {
+            let before = host.memory.clone();
+            let step = host.random_step(random);
+            steps.push(step.clone());
+            if self.compare_step(&mut host.memory, &step).is_err() {
+                return Err(self.difference(&before, List { plan, steps }));
+            }
+            if host.memory.plan != before.plan {
+                host.read_again();
+            }
+        }
+        Ok(())
+    }
+
+    fn compare_step(&mut self, memory: &mut Memory, step: &Step) -> Result<Answer, String> {
+        let answer = self.pair.compare(memory, step)?;
+        self.cases += 1;
+        self.tally.count(&Answered {
+            line: step.call.name().to_string(),
+            answer: shown_answer(answer),
+        });
+        Ok(answer)
+    }
+
+    /// The state of a site is its plan bytes and counters, so the last call alone should differ too. If it does not, the
+    /// calls before it are needed.
+    fn difference(&self, before: &Memory, list: List) -> Difference {
+        let differs = |list: &List| self.pair.first_difference(list).is_some();
+        let alone = list.steps.last().map(|step| before.before(step));
+        let list = alone.filter(|alone| differs(alone)).unwrap_or(list);
+        let list = shrink(list, &differs);
+        let what = match self.pair.first_difference(&list) {
+            Some((number, what)) => format!("call {number}: {what}"),
+            None => "a difference that did not come again".to_string(),
+        };
+        Difference { list, what }
+    }
+}
+
+/// The exit status: 0 without a difference, 1 with one.
+pub fn compare_library(count: u64, seed: u64) -> u8 {
+    let mut comparison = Comparison::new(Pair {
+        judged: LIBRARY,
+        right: MODEL,
+    });
+    let result = comparison.run(count, &mut Random::from_seed(seed));
+    print!("{}", comparison.tally);
+    println!("seed {seed}, {} cases", comparison.cases);
+    let result = result.map_err(|difference| difference.to_string());
+    status_of(result, "no difference")
+}
+
+#[cfg(test)]
+mod tests {
+    use super::*;
+    use crate::bytes::{read_plan, COMMAND_LENGTH};
+    use crate::calls::{CELLS, COUNTERS};
+    use crate::functions::Functions;
+    use crate::host_calls::Call;
+    use crate::library::NewFlow;
+    use crate::model;
+    use crate::programs::hex;
+    use crate::rules::refuse;
+
+    /// Every number that a function may answer is met at least 50 times.
+    #[test]
+    fn the_library_does_what_the_model_does() {
+        let mut comparison = Comparison::new(Pair {
+            judged: LIBRARY,
+            right: MODEL,
+        });
+        let result = comparison.run(250_000, &mut Random::from_seed(20));
+        assert!(result.is_ok(), "{}", result.unwrap_err());
+        let tally = &comparison.tally;
+        assert!(tally.all_reach(50) && tally.all_accepted(2000), "{tally}");
+    }
+
+    /// What the comparison of a mistaken implementation with the model ends with. The list has to be small.
+    fn difference(judged: Functions, call: &str, commands: usize) -> Difference {
+        let mut comparison = Comparison::new(Pair {
+            judged,
+            right: MODEL,
+        });
+        let result = comparison.run(100_000, &mut Random::from_seed(21));
+        let difference = result.expect_err("the mistake is not found");
+        let (list, report) = (&difference.list, difference.to_string());
+        assert_eq!(list.steps.len(), 1, "{report}");
+        assert_eq!(list.steps[0].call.name(), call, "{report}");
+        let length = COMMAND_LENGTH * commands + 1;
+        assert!(list.plan.len() <= length, "{report}");
+        assert!(report.contains(&format!("plan{}\n", hex(&list.plan))));
+        difference
+    }
+
+    fn shows(difference: &Difference, text: &str) {
+        let report = difference.to_string();
+        assert!(report.contains(text), "{text} is not in {report}");
+    }
+
+    /// Flow 5: one packet too few leaves its last link.
+    fn slow_slot(plan: &[u8], counters: &mut [u32], arrivals: &[u16], number: u32) -> Answer {
+        let before = counters.to_vec();
+        let answer = model::slot(plan, counters, arrivals, number)?;
+        let delivered = 5 * CELLS + CELLS - 1;
+        if counters[delivered] > before[delivered] {
+            let site = read_plan(plan)?;
+            counters[delivered] -= 1;
+            counters[5 * CELLS + site.route_of_flow(5).len() - 1] += 1;
+        }
+        Ok(answer)
+    }
+
+    #[test]
+    fn a_packet_too_few_is_found() {
+        let judged = Functions {
+            slot: slow_slot,
+            ..MODEL
+        };
+        let difference = difference(judged, "slot", 2);
+        shows(&difference, "call 1: counters[45]: found ");
+        shows(&difference, " 02 05 01 ");
+        let Call::Slot { arrivals, .. } = &difference.list.steps[0].call else {
+            panic!("{difference}");
+        };
+        let counters = difference.list.steps[0].counters.iter().flatten();
+        let coming = arrivals.iter().filter(|&&count| count > 0).count();
+        let waiting = counters.filter(|&&count| count > 0).count();
+        assert_eq!(coming + waiting, 1, "{difference}");
+    }
+
+    /// 18 before 17.
+    fn late_17(plan: &[u8], counters: &mut [u32], flow: NewFlow, out: &mut [u8]) -> Answer {
+        let answer = model::admit(plan, counters, flow, out);
+        match answer {
+            Err(refusal) if refusal.number == 17 => {
+                let gaps = read_plan(plan)?.wanted_gaps(usize::from(flow.entry));
+                if gaps > u64::from(flow.deadline) {
+                    return refuse(18, usize::from(flow.number));
+                }
+            }
+            _ => (),
+        }
+        answer
+    }
+
+    #[test]
+    fn checks_in_another_order_are_found() {
+        let judged = Functions {
+            admit: late_17,
+            ..MODEL
+        };
+        let difference = difference(judged, "admit", 2);
+        shows(&difference, "expected refused 17 1");
+        shows(&difference, "found refused 18 ");
+        shows(&difference, "admit number ");
+        shows(&difference, "counters 576 room ");
+    }
+
+    fn byte_behind(plan: &[u8], out: &mut [u8]) -> Answer {
+        let length = model::schedule(plan, out)?;
+        if let Some(byte) = out.get_mut(length as usize) {
+            *byte = 0;
+        }
+        Ok(length)
+    }
+
+    fn byte_in_front(plan: &[u8], out: &mut [u8]) -> Answer {
+        let answer = model::schedule(plan, out);
+        match out.first_mut() {
+            Some(byte) if answer == refuse(1, 0) => *byte = 0x11,
+            _ => (),
+        }
+        answer
+    }
+
+    #[test]
+    fn a_byte_left_in_the_buffer_is_found() {
+        let [behind, in_front] = [byte_behind, byte_in_front].map(|schedule| {
+            let judged = Functions { schedule, ..MODEL };
+            difference(judged, "schedule", 1)
+        });
+        shows(&behind, "out[7]: found 0, expected ");
+        shows(&in_front, "out[0]: found 11, expected ");
+        shows(&in_front, "schedule room ");
+    }
+
+    /// The counters are set before the buffer is judged.
+    fn hasty_admit(plan: &[u8], counters: &mut [u32], flow: NewFlow, out: &mut [u8]) -> Answer {
+        let written = model::admit(plan, counters, flow, &mut [0; 800]);
+        match written {
+            Ok(_) => model::admit(plan, &mut [0; COUNTERS], flow, out),
+            refused => refused,
+        }
+    }
+
+    fn forgetful_release(plan: &[u8], counters: &mut [u32], number: u8, out: &mut [u8]) -> Answer {
+        let last = counters
+            .get(usize::from(number) * CELLS + CELLS - 1)
+            .copied();
+        let length = model::release(plan, counters, number, out)?;
+        counters[usize::from(number) * CELLS + CELLS - 1] = last.unwrap_or(0);
+        Ok(length)
+    }
+
+    #[test]
+    fn a_counter_too_many_or_too_few_is_found() {
+        let admit = Functions {
+            admit: hasty_admit,
+            ..MODEL
+        };
+        shows(&difference(admit, "admit", 1), ": found 0, expected ");
+        let release = Functions {
+            release: forgetful_release,
+            ..MODEL
+        };
+        let difference = difference(release, "release", 2);
+        shows(&difference, "counters before the call 576 ");
+        shows(&difference, ", expected 0\n");
+    }
+
+    /// Offsets are filled though the parent is crowded.
+    fn careless_deal(gaps: &[u16], offsets: &mut [u16], periods: &mut [u16]) -> Answer {
+        let answer = model::deal(gaps, offsets, periods);
+        if answer == refuse(11, 0) {
+            offsets[0] = 0;
+        }
+        answer
+    }
+
+    #[test]
+    fn a_list_that_a_refusal_changes_is_found() {
+        let judged = Functions {
+            deal: careless_deal,
+            ..MODEL
+        };
+        let difference = difference(judged, "deal", 0);
+        shows(&difference, "offsets[0]: found 0, expected ");
+        let Call::Deal { gaps, .. } = &difference.list.steps[0].call else {
+            panic!("{difference}");
+        };
+        assert!(gaps.len() <= 3, "{difference}");
+        let gaps: String = gaps.iter().map(|gap| format!(" {gap:04X}")).collect();
+        shows(&difference, &format!("deal{gaps}, offsets "));
+    }
+}

@@ -1,0 +1,164 @@
+//! The nine functions of `include/slotplan.h` over plan bytes, made of this implementation. The order of the checks is the header's.
+
+use crate::bytes::{read_plan, write_plan, write_schedule};
+use crate::calls::{self, admission, COUNTERS};
+use crate::library::{Answer, Marked, NewFlow};
+use crate::rules::{refuse, slot_rule, Flow, Refusal, Site, FLOW_NUMBERS};
+use crate::slots;
+
+pub fn mark(plan: &[u8]) -> Marked {
+    let site = read_plan(plan)?;
+    Ok((site.links, site.live_flows().len() as u64))
+}
+
+pub fn schedule(plan: &[u8], out: &mut [u8]) -> Answer {
+    let site = read_plan(plan)?;
+    write_schedule(&site, out).map(|length| length as u64)
+}
+
+/// No bytes read to the empty site, so 14 judges here whether the bytes are accepted, and nothing else.
+fn site_of(plan: &[u8]) -> Result<Site, Refusal> {
+    read_plan(plan).or_else(|_| refuse(14, 0))
+}
+
+/// 01: 1 comes before 14, and here the site is read only then.
+fn check_counters(counters: &[u32]) -> Result<(), Refusal> {
+    if counters.len() != COUNTERS {
+        return refuse(1, 0);
+    }
+    Ok(())
+}
+
+/// Makes a change of the site and writes the new bytes. 01: the slice that a writer fills is judged last, and lent memory is
+/// unchanged by a refusal, so the counters are set only when the bytes are written.
+fn change(
+    plan: &[u8],
+    counters: &mut [u32],
+    out: &mut [u8],
+    call: impl FnOnce(&mut Site, &mut [u32]) -> Result<(), Refusal>,
+) -> Answer {
+    check_counters(counters)?;
+    let mut site = site_of(plan)?;
+    let mut changed = counters.to_vec();
+    call(&mut site, &mut changed)?;
+    let length = write_plan(&site, out)?;
+    counters.copy_from_slice(&changed);
+    Ok(length as u64)
+}
+
+pub fn admit(plan: &[u8], counters: &mut [u32], flow: NewFlow, out: &mut [u8]) -> Answer {
+    let flow = Flow {
+        number: usize::from(flow.number),
+        entry: usize::from(flow.entry),
+        rate: u64::from(flow.rate),
+        deadline: u64::from(flow.deadline),
+    };
+    change(plan, counters, out, |site, counters| {
+        admission(site, counters, flow)
+    })
+}
+
+pub fn release(plan: &[u8], counters: &mut [u32], number: u8, out: &mut [u8]) -> Answer {
+    change(plan, counters, out, |site, counters| {
+        calls::release(site, counters, usize::from(number))
+    })
+}
+
+pub fn start(plan: &[u8], counters: &mut [u32]) -> Answer {
+    check_counters(counters)?;
+    slots::start(&site_of(plan)?, counters).map(|()| 0)
+}
+
+pub fn slot(plan: &[u8], counters: &mut [u32], arrivals: &[u16], number: u32) -> Answer {
+    check_counters(counters)?;
+    if arrivals.len() != FLOW_NUMBERS {
+        return refuse(1, 0);
+    }
+    slots::slot(&site_of(plan)?, counters, arrivals, number).map(|()| 0)
+}
+
+pub fn sender(plan: &[u8], parent: u8, slot: u32) -> Answer {
+    let site = site_of(plan)?;
+    let node = calls::sender(&site, usize::from(parent), u64::from(slot))?;
+    Ok(node as u64)
+}
+
+pub fn bound(plan: &[u8], number: u8) -> Answer {
+    let (site, number) = (site_of(plan)?, usize::from(number));
+    if number >= FLOW_NUMBERS {
+        return refuse(5, 0);
+    }
+    if !site.is_live(number) {
+        return refuse(16, number);
+    }
+    Ok(site.bound(number))
+}
+
+fn widened(list: &[u16]) -> Vec<u64> {
+    list.iter().map(|&value| u64::from(value)).collect()
+}
+
+/// The value of a slot rule's list is at most 1,024.
+fn narrowed(list: &[u64], into: &mut [u16]) {
+    for (place, &value) in into.iter_mut().zip(list) {
+        *place = value as u16;
+    }
+}
+
+/// The base.
+pub fn deal(gaps: &[u16], offsets: &mut [u16], periods: &mut [u16]) -> Answer {
+    let [gaps, mut dealt, mut served] = [gaps, &*offsets, &*periods].map(widened);
+    let base = slot_rule(&gaps, &mut dealt, &mut served)?;
+    narrowed(&dealt, offsets);
+    narrowed(&served, periods);
+    Ok(base)
+}
+
+#[cfg(test)]
+mod tests {
+    use super::*;
+    use crate::bytes::plan_p;
+
+    const NEW: NewFlow = NewFlow {
+        number: 5,
+        entry: 2,
+        rate: 3,
+        deadline: 6,
+    };
+
+    /// From one line to the next the first failing check is mended.
+    #[test]
+    fn checks_of_an_admission_come_in_the_order_of_the_header() {
+        let mut counters = vec![7; COUNTERS + 1];
+        let mut answer = |plan: &[u8], lent: usize, flow: NewFlow, room: usize| {
+            let mut out = vec![9; room];
+            let answer = admit(plan, &mut counters[..lent], flow, &mut out);
+            assert!(answer.is_ok() || counters.iter().all(|&cell| cell == 7));
+            assert!(answer.is_ok() || out.iter().all(|&byte| byte == 9));
+            answer
+        };
+        let (refused, plan) = (plan_p(9, 6), plan_p(9, 7));
+        let wrong = NewFlow { rate: 0, ..NEW };
+        assert_eq!(answer(&refused, 577, wrong, 0), refuse(1, 0));
+        assert_eq!(answer(&refused, 576, wrong, 0), refuse(14, 0));
+        assert_eq!(answer(&plan, 576, wrong, 0), refuse(5, 0));
+        let late = NewFlow { deadline: 5, ..NEW };
+        assert_eq!(answer(&plan, 576, late, 0), refuse(18, 5));
+        assert_eq!(answer(&plan, 576, NEW, 30), refuse(1, 0));
+        assert_eq!(answer(&plan, 576, NEW, 31), Ok(31));
+        assert_eq!(counters[44..55], [7, 0, 0, 0, 0, 0, 0, 0, 0, 0, 7]);
+    }
+
+    #[test]
+    fn bounds_and_senders_of_p() {
+        let plan = plan_p(9, 7);
+        assert_eq!(mark(&plan), Ok((3, 1)));
+        assert_eq!(bound(&plan, 0), Ok(7));
+        assert_eq!(bound(&plan, 63), refuse(16, 63));
+        assert_eq!(bound(&plan, 64), refuse(5, 0));
+        assert_eq!(bound(&plan[..24], 64), refuse(14, 0));
+        assert_eq!(sender(&plan, 0, 5), Ok(2));
+        assert_eq!(sender(&plan, 4, 5), refuse(6, 0));
+        assert_eq!(sender(&[], 0, 5), refuse(14, 0));
+    }
+}
