@@ -18,17 +18,26 @@ abbrev pub writing : Written → Outcome ℕ
 writing (Length n) = accepted n
 writing (Refused number place) = refused number place
 
--- 01, command 01, NODE, of the node at index i.
+-- 01, command 01, NODE: parent, capacity and gap; and that of the node at index i.
+abbrev pub nodeCommand : ℕ → ℕ → ℕ → List ℕ
+nodeCommand parent capacity gap = 1 ∷ parent ∷ bytesOf 2 capacity ++ bytesOf 2 gap
+
 unfoldable pub nodeBytes : Site → ℕ → List ℕ
-nodeBytes s i = 1 ∷ getD (s .parents) i 0 ∷ bytesOf 2 (getD (s .capacities) i 0) ++ bytesOf 2 (getD (s .gaps) i 0)
+nodeBytes s i = nodeCommand (getD (s .parents) i 0) (getD (s .capacities) i 0) (getD (s .gaps) i 0)
 
--- 01, command 02, FLOW, of flow number n.
+-- 01, command 02, FLOW: number, entry node, rate and deadline; and that of flow number n.
+abbrev pub flowCommand : ℕ → ℕ → ℕ → ℕ → List ℕ
+flowCommand number entry rate deadline = 2 ∷ number ∷ entry ∷ rate ∷ bytesOf 2 deadline
+
 unfoldable pub flowBytes : Site → ℕ → List ℕ
-flowBytes s n = 2 ∷ n ∷ getD (s .entries) n 0 ∷ getD (s .rates) n 0 ∷ bytesOf 2 (getD (s .deadlines) n 0)
+flowBytes s n = flowCommand n (getD (s .entries) n 0) (getD (s .rates) n 0) (getD (s .deadlines) n 0)
 
--- 01, command 11, LINK, of the link at index i: its node, offset and period.
+-- 01, command 11, LINK: node, offset and period; and that of the link at index i.
+abbrev pub linkCommand : ℕ → ℕ → ℕ → List ℕ
+linkCommand node offset period = 17 ∷ node ∷ bytesOf 2 offset ++ bytesOf 2 period
+
 unfoldable pub linkBytes : List ℕ → List ℕ → ℕ → List ℕ
-linkBytes offsets periods i = 17 ∷ (i + 1) ∷ bytesOf 2 (getD offsets i 0) ++ bytesOf 2 (getD periods i 0)
+linkBytes offsets periods i = linkCommand (i + 1) (getD offsets i 0) (getD periods i 0)
 
 unfoldable pub flowIfLive : Site → ℕ → List ℕ
 flowIfLive s n = cond (live s n) (flowBytes s n) []

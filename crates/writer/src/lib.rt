@@ -4,7 +4,7 @@ ghost use mathlib.Core.Path.{_≡_};
 ghost use Prim.Native.Nat.{_+_, _≤_, _<_};
 ghost use lib.ListN.{length};
 ghost use lib.Seq.{sets};
-ghost use Rattle.writer.specs.Write.{writing, nodeBytes, flowBytes, flowIfLive, linkBytes, planBytes, scheduleBytes};
+ghost use Rattle.writer.specs.Write.{writing, nodeCommand, nodeBytes, flowCommand, flowIfLive, linkCommand, linkBytes, planBytes, scheduleBytes};
 ghost use Rattle.pinwheel.specs.Search.{joined};
 ghost use Rattle.writer.specs.Write.{written, encoded, siteFault, writtenIf};
 
@@ -15,15 +15,12 @@ pub enum Written {
 }
 
 // The commands: NODE, FLOW and LINK.
-fn node_command(site: Site, i: usize) -> [u8; 6]
-    requires { ⌜ i < 63 ⌝ }
-    ensures { λ r. ⌜ r ≡ nodeBytes site i ⌝ }
+fn node_command(parent: u8, capacity: u16, gap: u16) -> [u8; 6]
+    ensures { λ r. ⌜ r ≡ nodeCommand parent capacity gap ⌝ }
 {
-    let capacity = site.capacities[i];
-    let gap = site.gaps[i];
     [
         1,
-        site.parents[i],
+        parent,
         format::low(capacity),
         format::high(capacity),
         format::low(gap),
@@ -31,30 +28,25 @@ fn node_command(site: Site, i: usize) -> [u8; 6]
     ]
 }
 
-fn flow_command(site: Site, n: usize) -> [u8; 6]
-    requires { ⌜ n < 64 ⌝ }
-    ensures { λ r. ⌜ r ≡ flowBytes site n ⌝ }
+fn flow_command(number: u8, entry: u8, rate: u8, deadline: u16) -> [u8; 6]
+    ensures { λ r. ⌜ r ≡ flowCommand number entry rate deadline ⌝ }
 {
-    let deadline = site.deadlines[n];
     [
         2,
-        n as u8,
-        site.entries[n],
-        site.rates[n],
+        number,
+        entry,
+        rate,
         format::low(deadline),
         format::high(deadline),
     ]
 }
 
-fn link_command(offsets: [u16; 63], periods: [u16; 63], i: usize) -> [u8; 6]
-    requires { ⌜ i < 63 ⌝ }
-    ensures { λ r. ⌜ r ≡ linkBytes offsets periods i ⌝ }
+fn link_command(node: u8, offset: u16, period: u16) -> [u8; 6]
+    ensures { λ r. ⌜ r ≡ linkCommand node offset period ⌝ }
 {
-    let offset = offsets[i];
-    let period = periods[i];
     [
         17,
-        (i + 1) as u8,
+        node,
         format::low(offset),
         format::high(offset),
         format::low(period),
@@ -84,7 +76,7 @@ fn put_nodes(site: Site, out: &mut [u8]) -> usize
     let mut at = 0;
     let mut i = 0;
     while i < n {
-        let command = node_command(site, i);
+        let command = node_command(site.parents[i], site.capacities[i], site.gaps[i]);
         put(out, at, &command);
         at += format::size(1);
         i += 1;
@@ -102,7 +94,7 @@ fn put_flows(site: Site, start: usize, out: &mut [u8]) -> usize
     let mut n = 0;
     while n < 64 {
         if site.states[n] == 1 {
-            let command = flow_command(site, n);
+            let command = flow_command(n as u8, site.entries[n], site.rates[n], site.deadlines[n]);
             put(out, at, &command);
             at += format::size(2);
         }
@@ -152,7 +144,7 @@ fn put_links(links: u8, offsets: [u16; 63], periods: [u16; 63], out: &mut [u8]) 
     let mut at = 0;
     let mut i = 0;
     while i < n {
-        let command = link_command(offsets, periods, i);
+        let command = link_command((i + 1) as u8, offsets[i], periods[i]);
         put(out, at, &command);
         at += format::schedule_size(17);
         i += 1;

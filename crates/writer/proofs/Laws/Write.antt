@@ -16,7 +16,7 @@ use Rattle.site.specs.Sites.{live}
 use Rattle.format.specs.Bytes.{bytesOf}
 use Rattle.format.specs.Commands.{sizeOf, scheduleSize}
 use Rattle.limits.specs.Check.{passesOf}
-use Rattle.writer.specs.Write.{nodeBytes, flowBytes, linkBytes, flowIfLive, commandBytes, planBytes, scheduleBytes, written, encoded, siteFault, writtenIf}
+use Rattle.writer.specs.Write.{nodeCommand, nodeBytes, flowCommand, flowBytes, linkCommand, linkBytes, flowIfLive, commandBytes, planBytes, scheduleBytes, written, encoded, siteFault, writtenIf}
 use Rattle.pinwheel.specs.Search.{joined}
 use Rattle.pinwheel.proofs.Laws.Items.{joined-next}
 use Rattle.limits.proofs.Laws.Check.{passes-few}
@@ -92,6 +92,19 @@ entries-from xs (suc r) i e = rw (entries-from xs r (i + 1) (omega arith), drop-
 
 pub entries : (xs : List ℕ) (n : ℕ) → length xs ≡ n → joined (entry xs) n 0 ≡ xs
 entries xs n e = entries-from xs n 0 (omega arith)
+
+-- A command of a site's own entries.
+pub node-made : (s : Site) (i : ℕ) → nodeCommand (getD (s .parents) i 0) (getD (s .capacities) i 0) (getD (s .gaps) i 0) ≡ nodeBytes s i
+unfolding nodeBytes
+node-made s i = refl
+
+pub flow-made : (s : Site) (n : ℕ) → flowCommand n (getD (s .entries) n 0) (getD (s .rates) n 0) (getD (s .deadlines) n 0) ≡ flowBytes s n
+unfolding flowBytes
+flow-made s n = refl
+
+pub link-made : (offsets periods : List ℕ) (i : ℕ) → linkCommand (i + 1) (getD offsets i 0) (getD periods i 0) ≡ linkBytes offsets periods i
+unfolding linkBytes
+link-made offsets periods i = refl
 
 -- Each command takes the bytes of its size.
 pub node-size : (s : Site) (i : ℕ) → length (nodeBytes s i) ≡ sizeOf 1
