@@ -1,3 +1,164 @@
--- front
+-- What is proved of hosts' calls over plan bytes: an answer tells one outcome alone; a call is the operation on the site that the bytes read to; and the bytes
+-- that a change writes read to the changed site, so that a host that keeps bytes has lost nothing. The modules named here hold the lemmas.
 pub mod Told
 pub mod Calls
+use Prim.Native.Nat.{ℕ, _+_, _/_, _%_, _^_}
+use mathlib.Core.Path.{_≡_, refl, sym, _∙_, ap}
+use mathlib.Core.Bool.{Bool, true, false, not, cond}
+use mathlib.Core.List.{List, _++_}
+use lib.Dec.{eqb, ltb}
+use lib.ListN.{length, take, drop}
+use lib.Seq.{take-at, drop-at}
+use borrow.Author.Tests.{eqb-true, eqb-false}
+use native.Mathlib.Omega.{arith}
+use Rattle.pinwheel.specs.Outcome.{Outcome, Ruling, accepted, refused}
+use Rattle.pinwheel.proofs.Laws.Outcomes.{refused-not}
+use Rattle.site.specs.declared.Site.{Site}
+use Rattle.site.specs.declared.Flow.{Flow}
+use Rattle.limits.specs.Check.{passesOf}
+use Rattle.format.specs.Words.{Bytes}
+use Rattle.reader.specs.Read.{readOf}
+use Rattle.writer.specs.Write.{planBytes, written, siteFault, writtenIf}
+use Rattle.plan.proofs.Laws.{written-read}
+use Rattle.admission.specs.Calls.{admitOf, releaseOf}
+use Rattle.simulation.specs.Hops.{own}
+use Rattle.simulation.specs.Slot.{slotOf, startOf}
+use Rattle.embed.specs.Calls.{told, valued, byReading, onSite, ofLength, stored, rewritten, admitFrom, releaseFrom, answered, startFrom, slotFrom}
+
+-- What is refused is not accepted.
+unlike : {number place value : ℕ} → _≡_ {A = Outcome ℕ} (refused number place) (accepted value) → ⊥
+unlike e = refused-not _ refl e
+
+-- No two answers tell the same, so an equation about what is told is one about the answer.
+pub told-once : (a b : ℕ) → told a ≡ told b → a ≡ b
+unfolding told
+told-once a b e = go (eqb (a / 2 ^ 56) 0) refl (eqb (b / 2 ^ 56) 0) refl e
+  where
+    tells : ℕ → Bool → Outcome ℕ
+    tells n t = cond t (accepted (n % 2 ^ 56)) (refused (n / 2 ^ 56) (n % 2 ^ 56))
+
+    go : (s : Bool) → eqb (a / 2 ^ 56) 0 ≡ s → (t : Bool) → eqb (b / 2 ^ 56) 0 ≡ t → tells a s ≡ tells b t → a ≡ b
+    go true p true q e =
+        let v : a % 2 ^ 56 ≡ b % 2 ^ 56 = cc in omega (arith, eqb-true (a / 2 ^ 56) 0 p, eqb-true (b / 2 ^ 56) 0 q)
+    go true p false q e = absurd (refused-not _ refl (sym e))
+    go false p true q e = absurd (refused-not _ refl e)
+    go false p false q e =
+        let n : a / 2 ^ 56 ≡ b / 2 ^ 56 = cc in let v : a % 2 ^ 56 ≡ b % 2 ^ 56 = cc in omega arith
+
+-- An accepted call on a live site: the bytes read to a site, and the call on it came to this.
+by-site : {A : Type 0} (bytes : List ℕ) (otherwise a : A) (f : Site → A) → (otherwise ≡ a → ⊥) → onSite bytes otherwise f ≡ a
+    → (s : Site) × (readOf bytes ≡ accepted s) × (f s ≡ a)
+unfolding onSite byReading
+by-site {A = A} bytes otherwise a f differs e = go (readOf bytes) refl e
+  where
+    go : (o : Outcome Site) → readOf bytes ≡ o → byReading o (λ number place. otherwise) f ≡ a → (s : Site) × (readOf bytes ≡ accepted s) × (f s ≡ a)
+    go (accepted s) q e = (s, q, e)
+    go (refused number place) q e = absurd (differs e)
+
+of-list : {A : Type 0} (list : List ℕ) (n : ℕ) (otherwise b a : A) → (otherwise ≡ a → ⊥) → ofLength list n otherwise b ≡ a → (length list ≡ n) × (b ≡ a)
+unfolding ofLength
+of-list {A = A} list n otherwise b a differs e = go (eqb (length list) n) refl e
+  where
+    go : (t : Bool) → eqb (length list) n ≡ t → cond (not t) otherwise b ≡ a → (length list ≡ n) × (b ≡ a)
+    go true q e = (eqb-true _ _ q, e)
+    go false q e = absurd (differs e)
+
+-- Bytes that were written read to the site that they were written of, and what stood behind them stands there still.
+written-reads : (s : Site) (out new : List ℕ) (size : ℕ) → writtenIf s (planBytes s) out ≡ (accepted size, new)
+    → (readOf (take size new) ≡ accepted s) × (drop size new ≡ drop size out)
+unfolding writtenIf siteFault written
+written-reads s out new size e = go (passesOf s) refl (eqb (s .links) 0) refl (ltb (length out) (length (planBytes s))) e
+  where
+    go : (a : Bool) → passesOf s ≡ a → (b : Bool) → eqb (s .links) 0 ≡ b → (c : Bool)
+        → _≡_ {A = Outcome ℕ × List ℕ}
+        (cond (eqb (cond a (cond b 9 0) 14) 0) (cond c (refused 1 0, out) (accepted (length (planBytes s)), planBytes s ++ drop (length (planBytes s)) out)) (refused (cond a (cond b 9 0) 14) 0, out))
+        (accepted size, new)
+        → (readOf (take size new) ≡ accepted s) × (drop size new ≡ drop size out)
+    go true p false q false e =
+        let o : _≡_ {A = Outcome ℕ} (accepted (length (planBytes s))) (accepted size) = ap (λ (r : Outcome ℕ × List ℕ). r .0) e in
+        let long : length (planBytes s) ≡ size = cc in
+        let is : planBytes s ++ drop (length (planBytes s)) out ≡ new = ap (λ (r : Outcome ℕ × List ℕ). r .1) e in
+        let some : s .links ≡ 0 → ⊥ = eqb-false _ _ q in (
+          ap readOf (sym (ap (λ (r : List ℕ). take size r) is) ∙ take-at (planBytes s) (drop (length (planBytes s)) out) size long)
+              ∙ written-read s p (omega arith) .1,
+          sym (ap (λ (r : List ℕ). drop size r) is) ∙ drop-at (planBytes s) (drop (length (planBytes s)) out) size long ∙ rw long,
+        )
+    go true p false q true e = absurd (unlike (ap (λ (r : Outcome ℕ × List ℕ). r .0) e))
+    go true p true q c e = absurd (unlike (ap (λ (r : Outcome ℕ × List ℕ). r .0) e))
+    go false p b q c e = absurd (unlike (ap (λ (r : Outcome ℕ × List ℕ). r .0) e))
+
+-- What a change comes to where its bytes were written.
+abbrev Changed : List ℕ → (Site → Ruling × Site × List ℕ) → List ℕ → ℕ → List ℕ → List ℕ → Type 0
+Changed bytes change out size ds new =
+    (s : Site) × (next : Site) × (readOf bytes ≡ accepted s) × (change s ≡ (accepted tt, next, ds))
+    × (readOf (take size new) ≡ accepted next) × (drop size new ≡ drop size out)
+
+rewritten-reads : (change : Ruling × Site × List ℕ) (counters out : List ℕ) (size : ℕ) (ds new : List ℕ)
+    → rewritten change counters out ≡ (accepted size, ds, new)
+    → (next : Site) × (change ≡ (accepted tt, next, ds)) × (readOf (take size new) ≡ accepted next) × (drop size new ≡ drop size out)
+unfolding rewritten stored
+rewritten-reads (accepted a, next, cells) counters out size ds new e = go (writtenIf next (planBytes next) out) refl e
+  where
+    go : (w : Outcome ℕ × List ℕ) → writtenIf next (planBytes next) out ≡ w → stored w cells counters ≡ (accepted size, ds, new)
+        → (t : Site) × (_≡_ {A = Ruling × Site × List ℕ} (accepted a, next, cells) (accepted tt, t, ds))
+        × (readOf (take size new) ≡ accepted t) × (drop size new ≡ drop size out)
+    go (accepted n, b) q e =
+        let o : _≡_ {A = Outcome ℕ} (accepted n) (accepted size) = ap (λ (r : Outcome ℕ × List ℕ × List ℕ). r .0) e in
+        let is : n ≡ size = cc in
+        let cs : cells ≡ ds = ap (λ (r : Outcome ℕ × List ℕ × List ℕ). r .1) e in
+        let bs : b ≡ new = ap (λ (r : Outcome ℕ × List ℕ × List ℕ). r .2) e in
+        let w = written-reads next out new size (rw (is, bs) at q) in
+        (next, rw cs, w .0, w .1)
+    go (refused number place, b) q e = absurd (unlike (ap (λ (r : Outcome ℕ × List ℕ × List ℕ). r .0) e))
+rewritten-reads (refused number place, next, cells) counters out size ds new e =
+    absurd (unlike (ap (λ (r : Outcome ℕ × List ℕ × List ℕ). r .0) e))
+
+-- An accepted admission or release was accepted on the site that the old bytes read to, left the counters that it leaves, and wrote bytes that read to the
+-- changed site.
+changed : (bytes counters out : List ℕ) (change : Site → Ruling × Site × List ℕ) (size : ℕ) (ds new : List ℕ)
+    → ofLength counters 576 (refused 1 0, counters, out) (onSite bytes (refused 14 0, counters, out) (λ s. rewritten (change s) counters out)) ≡ (accepted size, ds, new)
+    → Changed bytes change out size ds new
+changed bytes counters out change size ds new e =
+    let a = of-list counters 576 _ _ _ (λ q. unlike (ap (λ (r : Outcome ℕ × List ℕ × List ℕ). r .0) q)) e in
+    let b = by-site bytes _ _ (λ (s : Site). rewritten (change s) counters out) (λ q. unlike (ap (λ (r : Outcome ℕ × List ℕ × List ℕ). r .0) q)) (a .1) in
+    let w = rewritten-reads (change (b .0)) counters out size ds new (b .2) in
+    (b .0, w .0, b .1, w .1, w .2, w .3)
+
+pub admit-reads : (bytes counters : List ℕ) (f : Flow) (out : List ℕ) (size : ℕ) (ds new : List ℕ)
+    → admitFrom bytes counters f out ≡ (accepted size, ds, new) → Changed bytes (λ s. admitOf s counters f) out size ds new
+unfolding admitFrom
+admit-reads bytes counters f out size ds new e = changed bytes counters out (λ s. admitOf s counters f) size ds new e
+
+pub release-reads : (bytes counters : List ℕ) (n : ℕ) (out : List ℕ) (size : ℕ) (ds new : List ℕ)
+    → releaseFrom bytes counters n out ≡ (accepted size, ds, new) → Changed bytes (λ s. releaseOf s counters n) out size ds new
+unfolding releaseFrom
+release-reads bytes counters n out size ds new e = changed bytes counters out (λ s. releaseOf s counters n) size ds new e
+
+-- An accepted start or slot was accepted on the site that the bytes read to, and left the counters that it leaves.
+abbrev Played : List ℕ → (Site → Ruling × List ℕ) → List ℕ → Type 0
+Played bytes call ds = (s : Site) × (readOf bytes ≡ accepted s) × (call s ≡ (accepted tt, ds))
+
+answered-yes : (r : Ruling × List ℕ) (value : ℕ) (ds : List ℕ) → answered r ≡ (accepted value, ds) → r ≡ (accepted tt, ds)
+unfolding answered valued
+answered-yes (accepted a, cs) value ds e = let q : cs ≡ ds = ap (λ (r : Outcome ℕ × List ℕ). r .1) e in rw q
+answered-yes (refused number place, cs) value ds e = absurd (unlike (ap (λ (r : Outcome ℕ × List ℕ). r .0) e))
+
+played : (bytes counters : List ℕ) (call : Site → Ruling × List ℕ) (value : ℕ) (ds : List ℕ)
+    → onSite bytes (refused 14 0, counters) (λ s. answered (call s)) ≡ (accepted value, ds) → Played bytes call ds
+played bytes counters call value ds e =
+    let w = by-site bytes _ _ (λ (s : Site). answered (call s)) (λ q. unlike (ap (λ (r : Outcome ℕ × List ℕ). r .0) q)) e in
+    (w .0, w .1, answered-yes (call (w .0)) value ds (w .2))
+
+pub start-plays : (bytes counters : List ℕ) (value : ℕ) (ds : List ℕ) → startFrom bytes counters ≡ (accepted value, ds) → Played bytes (λ s. startOf s counters) ds
+unfolding startFrom
+start-plays bytes counters value ds e =
+    let a = of-list counters 576 _ _ _ (λ q. unlike (ap (λ (r : Outcome ℕ × List ℕ). r .0) q)) e in
+    played bytes counters (λ s. startOf s counters) value ds (a .1)
+
+pub slot-plays : (bytes counters arrivals : List ℕ) (t value : ℕ) (ds : List ℕ) → slotFrom bytes counters arrivals t ≡ (accepted value, ds)
+    → Played bytes (λ s. slotOf own s counters arrivals t) ds
+unfolding slotFrom
+slot-plays bytes counters arrivals t value ds e =
+    let a = of-list counters 576 _ _ _ (λ q. unlike (ap (λ (r : Outcome ℕ × List ℕ). r .0) q)) e in
+    let b = of-list arrivals 64 _ _ _ (λ q. unlike (ap (λ (r : Outcome ℕ × List ℕ). r .0) q)) (a .1) in
+    played bytes counters (λ s. slotOf own s counters arrivals t) value ds (b .1)

@@ -1,28 +1,26 @@
 -- One law for each way that a host's call ends. The site is the one that the plan bytes read to.
 use Prim.Native.Nat.{ℕ, _≤_, _<_, _+_, _*_}
 use mathlib.Core.Path.{_≡_, refl, sym, _∙_, ap}
-use mathlib.Core.Bool.{true}
 use mathlib.Core.Logic.{inr}
 use mathlib.Core.List.{List}
 use lib.ListN.{length}
 use borrow.Author.Tests.{le-leb, eq-eqb, ne-eqb}
 use native.Mathlib.Omega.{arith}
-use Rattle.pinwheel.specs.Outcome.{Outcome, Ruling, accepted, refused, settled}
+use Rattle.pinwheel.specs.Outcome.{Outcome, accepted, refused, settled}
 use Rattle.site.specs.declared.Site.{Site}
 use Rattle.site.specs.declared.Flow.{Flow}
 use Rattle.site.specs.Sites.{withFlow, withoutFlow, withSchedule}
-use Rattle.site.specs.Reservations.{delayBound}
 use Rattle.schedule.specs.declared.Verdict.{Verdict}
 use Rattle.schedule.specs.declared.Verdict.the-variants.{Accepted, Refused}
 use Rattle.schedule.specs.Schedule.{scheduled}
 use Rattle.schedule.specs.Judge.{ruling, withSite}
 use Rattle.schedule.proofs.Laws.Rulings.{site-accepted, site-refused}
-use Rattle.limits.specs.Check.{passesOf, callFault}
+use Rattle.limits.specs.Check.{callFault}
 use Rattle.limits.proofs.Laws.{passes-sound, call-when, flow-taken}
 use Rattle.counters.specs.Blocks.{withCells, zeros, cleared}
 use Rattle.format.specs.Words.{Bytes}
 use Rattle.reader.specs.Read.{readOf}
-use Rattle.writer.specs.Write.{planBytes, scheduleBytes, encoded, writtenIf}
+use Rattle.writer.specs.Write.{planBytes, encoded, writtenIf}
 use Rattle.writer.proofs.Laws.{plain-writing}
 use Rattle.plan.proofs.Laws.{passes-when}
 use Rattle.plan.proofs.Laws.Acceptance.{read-form}

@@ -1,6 +1,7 @@
 -- Right because a bound is a number of 32 bits, and the checks of the number come before it.
 use borrow.Author.Needs.{needs}
 use mathlib.Core.Path.{sym, _∙_, ap}
+use Rattle.pinwheel.specs.Outcome.{accepted}
 use Rattle.schedule.specs.Judge.{ruling}
 use Rattle.embed.specs.Calls.{valued}
 use Rattle.embed.proofs.Laws.Told.{told-value, number-tellable}
@@ -31,7 +32,9 @@ refusal-requires c κs = number-tellable (c .before .before .before .before .arg
 
 returns : tie.Need-returns
 unfolding valued
-returns c = rw (← c .before .before .before .judge-number .ensures, c .before .enum-told .given .1, ← c .delay-bound .ensures) (told-value _ (omega arith))
+returns c =
+    rw (← c .before .before .before .judge-number .ensures, c .before .enum-told .given .1)
+    (told-value _ (omega arith) ∙ ap accepted (c .delay-bound .ensures))
 
 returns-2 : tie.Need-returns-2
 unfolding valued
