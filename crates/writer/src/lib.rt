@@ -181,12 +181,13 @@ pub fn encode_schedule(site: Site, out: &mut [u8]) -> Written
     ensures { λ r. ⌜ (writing r, now (out .exit))
         ≡ encoded site (scheduleBytes (site .links) (site .offsets) (site .periods)) (now (out .entry)) ⌝ }
 {
-    if 63 < site.links {
+    let links = site.links;
+    if 63 < links {
         return Written::Refused(14, 0);
     }
     let offsets = site.offsets;
     let periods = site.periods;
-    put_schedule(site.links, offsets, periods, out)
+    put_schedule(links, offsets, periods, out)
 }
 
 // 14 and 9 for a site handed to a writer, 0 where it fails neither.
