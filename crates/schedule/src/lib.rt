@@ -34,8 +34,9 @@ fn judge_reservations(site: Site) -> Judged
     ensures { λ r. ⌜ (ruling (r .verdict), r .site) ≡ withSite (reserved site) ⌝ }
 {
     let links = site::link_count(site.links);
-    let over = site::first_over(site);
-    let late = site::first_late(site);
+    let found = site::first_faults(site);
+    let over = found.over;
+    let late = found.late;
     if over < links {
         return refusal(12, over + 1);
     }
