@@ -4,11 +4,12 @@ use site::Site;
 use site::link_count;
 ghost use mathlib.Core.Path.{_≡_};
 ghost use Prim.Native.Nat.{ℕ, _≤_};
-ghost use Rattle.site.specs.declared.Site.{Site};
+ghost use mathlib.Core.List.{List};
 ghost use lib.ListN.{length, replicate};
+ghost use Rattle.site.specs.declared.Site.{Site};
 ghost use Rattle.pinwheel.specs.Deal.{outcome};
 ghost use Rattle.schedule.specs.Schedule.{gapsFrom, gapsUnder, baseOf, baseUnder};
-ghost use Rattle.schedule.specs.Inner.{Counted, GapsOf, DealtTo, Spread, SlotsOf};
+ghost use Rattle.schedule.specs.Inner.{Chained, Rising, Chain, GapsOf, DealtTo, Spread, SlotsOf};
 
 fn zeros() -> [u16; 63]
     ensures { λ r. ⌜ r ≡ replicate 63 0 ⌝ }
@@ -16,47 +17,59 @@ fn zeros() -> [u16; 63]
     [0; 63]
 }
 
-// How many children each node has among these links, the root's at 0.
-fn children_counted(links: usize, parents: &[u8]) -> [u8; 64]
+// For every parent its first child, and for every link the next child of its parent; the number of links where there is none.
+struct Chains {
+    first: [u8; 256],
+    next: [u8; 63],
+}
+
+// Before a link is looked at nobody has children.
+fn childless(links: u8) -> [u8; 256]
+    ensures { λ r. ⌜ r ≡ replicate 256 links ⌝ }
+{
+    [links; 256]
+}
+
+// From the last link down: so the child met last is the first.
+fn chains_of(links: usize, parents: &[u8]) -> Chains
     requires { ⌜ (links ≤ 63) × (length (now parents) ≡ 63) ⌝ }
-    ensures { λ r. ⌜ Counted (now (parents .entry)) links r ⌝ }
+    ensures { λ r. ⌜ Chained (now (parents .entry)) links 0 (r .first) (r .next) ⌝ }
 {
-    let mut counts = [0u8; 64];
-    let mut i = 0;
-    while i < links {
+    let first = childless(links as u8);
+    let mut chains = Chains {
+        first,
+        next: [0; 63],
+    };
+    let mut i = links;
+    while 0 < i {
+        i -= 1;
         let parent = parents[i] as usize;
-        if parent < 64 {
-            counts[parent] += 1;
-        }
-        i += 1;
+        chains.next[i] = chains.first[parent];
+        chains.first[parent] = i as u8;
     }
-    counts
+    chains
 }
 
-// The gaps that the children of one parent want, in the first `count` places.
-struct Wanted {
-    count: usize,
-    gaps: [u16; 63],
-}
-
-fn gaps_under<'a>(links: usize, parents: &'a [u8], gaps: &'a [u16], parent: u8) -> Wanted
-    requires { ⌜ (links ≤ 63) × (length (now parents) ≡ 63) × (length (now gaps) ≡ 63) ⌝ }
-    ensures { λ r. ⌜ GapsOf (gapsFrom (now (parents .entry)) (now (gaps .entry)) parent links 0) (r .count) (r .gaps) ⌝ }
+// Puts the gaps that the children from this one on want into the first places, and answers how many these are.
+fn gaps_under(
+    child: usize,
+    links: usize,
+    next: &[u8],
+    gaps: &[u16],
+    wanted: &mut [u16; 63],
+) -> usize
+    requires { ⌜ (child ≤ links) × (links ≤ 63) × Rising links (now next) × (length (now gaps) ≡ 63) × (length (now wanted) ≡ 63) ⌝ }
+    ensures { λ r. ⌜ ((parents : List ℕ) (p : ℕ) → Chain parents (now (next .entry)) links p child
+        → GapsOf (gapsFrom parents (now (gaps .entry)) p links 0) r (now (wanted .exit))) ⌝ }
 {
-    let mut wanted = zeros();
     let mut count = 0;
-    let mut i = 0;
+    let mut i = child;
     while i < links {
-        if parents[i] == parent {
-            wanted[count] = gaps[i];
-            count += 1;
-        }
-        i += 1;
+        wanted[count] = gaps[i];
+        count += 1;
+        i = next[i] as usize;
     }
-    Wanted {
-        count,
-        gaps: wanted,
-    }
+    count
 }
 
 // The base of an answer, 0 of a refusal.
@@ -69,27 +82,14 @@ fn base_in(answer: Answer) -> u16
     }
 }
 
-// The base that the slot rule finds for n children, 0 where it refuses them, and what it deals them, in the first n places.
-struct Dealt {
-    base: u16,
-    offsets: [u16; 63],
-    periods: [u16; 63],
-}
-
-// Asks the slot rule for n children with these gaps.
-fn deal_to(n: usize, gaps: [u16; 63]) -> Dealt
-    requires { ⌜ n ≤ 63 ⌝ }
-    ensures { λ r. ⌜ ((s : Site) (p : ℕ) → GapsOf (gapsUnder s p) n gaps → DealtTo s p (r .base) n (r .offsets) (r .periods)) ⌝ }
+// Has the slot rule deal to n children with these gaps in the first n places, and answers its base, 0 where it refuses them.
+fn deal_to(n: usize, wanted: &[u16], offsets: &mut [u16], periods: &mut [u16]) -> u16
+    requires { ⌜ (n ≤ 63) × (length (now wanted) ≡ 63) × (now offsets ≡ replicate 63 0) × (now periods ≡ replicate 63 0) ⌝ }
+    ensures { λ r. ⌜ ((s : Site) (p : ℕ) → GapsOf (gapsUnder s p) n (now (wanted .entry))
+        → DealtTo s p r n (now (offsets .exit)) (now (periods .exit))) ⌝ }
 {
-    let mut offsets = zeros();
-    let mut periods = zeros();
-    let answer = pinwheel::deal(&gaps[..n], &mut offsets[..n], &mut periods[..n]);
-    let base = base_in(answer);
-    Dealt {
-        base,
-        offsets,
-        periods,
-    }
+    let answer = pinwheel::deal(&wanted[..n], &mut offsets[..n], &mut periods[..n]);
+    base_in(answer)
 }
 
 // The base that the slot rule finds for the children of a parent, 0 where it refuses them.
@@ -97,34 +97,39 @@ pub fn base_under(site: Site, parent: u8) -> u16
     ensures { λ r. ⌜ r ≡ baseUnder site parent ⌝ }
 {
     let links = link_count(site.links);
-    let wanted = gaps_under(links, &site.parents, &site.gaps, parent);
-    let gaps = wanted.gaps;
-    let dealt = deal_to(wanted.count, gaps);
-    dealt.base
+    let chains = chains_of(links, &site.parents);
+    let at = parent as usize;
+    let child = chains.first[at] as usize;
+    let mut wanted = zeros();
+    let n = gaps_under(child, links, &chains.next, &site.gaps, &mut wanted);
+    let mut offsets = zeros();
+    let mut periods = zeros();
+    deal_to(n, &wanted, &mut offsets, &mut periods)
 }
 
-// Hands what was dealt, in its order, to the children of one parent.
+// Hands what was dealt, in its order, to the children from this one on.
 fn spread(
+    child: usize,
     links: usize,
-    parents: &[u8],
-    parent: u8,
-    dealt: Dealt,
+    next: &[u8],
+    os: &[u16],
+    ps: &[u16],
     offsets: &mut [u16; 63],
     periods: &mut [u16; 63],
 )
-    requires { ⌜ (links ≤ 63) × (length (now parents) ≡ 63) × (length (now offsets) ≡ 63) × (length (now periods) ≡ 63) ⌝ }
-    ensures { λ _. ⌜ Spread (now (parents .entry)) links parent (dealt .offsets) (now (offsets .entry)) (now (offsets .exit))
-        × Spread (now (parents .entry)) links parent (dealt .periods) (now (periods .entry)) (now (periods .exit)) ⌝ }
+    requires { ⌜ (child ≤ links) × (links ≤ 63) × Rising links (now next) × (length (now os) ≡ 63) × (length (now ps) ≡ 63)
+        × (length (now offsets) ≡ 63) × (length (now periods) ≡ 63) ⌝ }
+    ensures { λ _. ⌜ ((parents : List ℕ) (p : ℕ) → Chain parents (now (next .entry)) links p child
+        → Spread parents links p (now (os .entry)) (now (offsets .entry)) (now (offsets .exit))
+        × Spread parents links p (now (ps .entry)) (now (periods .entry)) (now (periods .exit))) ⌝ }
 {
     let mut k = 0;
-    let mut i = 0;
+    let mut i = child;
     while i < links {
-        if parents[i] == parent {
-            offsets[i] = dealt.offsets[k];
-            periods[i] = dealt.periods[k];
-            k += 1;
-        }
-        i += 1;
+        offsets[i] = os[k];
+        periods[i] = ps[k];
+        k += 1;
+        i = next[i] as usize;
     }
 }
 
@@ -139,27 +144,33 @@ pub(crate) fn deal_all(site: Site) -> Slots
     ensures { λ r. ⌜ SlotsOf site (r .crowded) (r .offsets) (r .periods) ⌝ }
 {
     let links = link_count(site.links);
-    let counts = children_counted(links, &site.parents);
+    let chains = chains_of(links, &site.parents);
+    let mut wanted = zeros();
     let mut offsets = zeros();
     let mut periods = zeros();
     let mut p: usize = 0;
     while p <= links {
-        if 0 < counts[p] {
-            let wanted = gaps_under(links, &site.parents, &site.gaps, p as u8);
-            let gaps = wanted.gaps;
-            let dealt = deal_to(wanted.count, gaps);
-            if dealt.base == 0 {
-                break;
-            }
-            spread(
-                links,
-                &site.parents,
-                p as u8,
-                dealt,
-                &mut offsets,
-                &mut periods,
-            );
+        let child = chains.first[p] as usize;
+        if links <= child {
+            p += 1;
+            continue;
         }
+        let n = gaps_under(child, links, &chains.next, &site.gaps, &mut wanted);
+        let mut os = zeros();
+        let mut ps = zeros();
+        let base = deal_to(n, &wanted, &mut os, &mut ps);
+        if base == 0 {
+            break;
+        }
+        spread(
+            child,
+            links,
+            &chains.next,
+            &os,
+            &ps,
+            &mut offsets,
+            &mut periods,
+        );
         p += 1;
     }
     Slots {

@@ -2,9 +2,9 @@
 mod reservations;
 mod tree;
 
+pub use reservations::Faults;
 pub use reservations::delay_bound;
-pub use reservations::first_late;
-pub use reservations::first_over;
+pub use reservations::first_faults;
 pub use reservations::first_unfit;
 pub use reservations::gaps_along;
 pub use reservations::gaps_judged;

@@ -8,8 +8,8 @@ ghost use mathlib.Core.Path.{_≡_};
 ghost use Prim.Native.Nat.{ℕ, _≤_, _<_, _+_};
 ghost use lib.ListN.{length, getD};
 ghost use Rattle.site.specs.Tree.{route};
-ghost use Rattle.site.specs.Reservations.{gapsJudged, load, firstOver, firstUnfit, along, firstLate, delayBound};
-ghost use Rattle.site.specs.Inner.{carried};
+ghost use Rattle.site.specs.Reservations.{gapsJudged, firstOver, firstUnfit, along, firstLate, delayBound};
+ghost use Rattle.site.specs.Inner.{carried, Loads};
 
 // The gaps that widths and the sums of 12, 13, 17 and 18 go by: the wanted gaps.
 pub fn gaps_judged(site: Site) -> [u16; 63]
@@ -19,7 +19,7 @@ pub fn gaps_judged(site: Site) -> [u16; 63]
 }
 
 // The sum of the values of the links from the node up to the root.
-fn sum_along(values: &[u16], parents: &[u8], node: u8) -> u32
+fn sum_along<'a>(values: &'a [u16], parents: &'a [u8], node: u8) -> u32
     ensures { λ r. ⌜ r ≡ along (now (values .entry)) (route (now (parents .entry)) node) ⌝ }
 {
     let mut sum: u32 = 0;
@@ -34,54 +34,78 @@ fn sum_along(values: &[u16], parents: &[u8], node: u8) -> u32
     }
 }
 
-// Adds a flow's width on each link from its entry node up.
-fn add_widths(gaps: &[u16], parents: &[u8], entry: u8, rate: u8, loads: &mut [u32])
+// Adds a flow's width on each link from its entry node up, and sums up the gaps of these links on the way.
+fn add_widths(gaps: &[u16], parents: &[u8], entry: u8, rate: u8, loads: &mut [u32]) -> u32
     requires { ⌜ (length (now loads) ≡ length (now parents)) × ((i : ℕ) → getD (now loads) i 0 ≤ 4000000000) ⌝ }
-    ensures { λ _. ⌜ now (loads .exit) ≡ carried (now (gaps .entry)) rate (route (now (parents .entry)) entry) (now (loads .entry)) ⌝ }
+    ensures { λ r. ⌜ (r ≡ along (now (gaps .entry)) (route (now (parents .entry)) entry))
+        × (now (loads .exit) ≡ carried (now (gaps .entry)) rate (route (now (parents .entry)) entry) (now (loads .entry))) ⌝ }
 {
+    let mut sum: u32 = 0;
     let mut node = entry;
     loop {
         let parent = parent_of(parents, node);
         if node <= parent {
-            return;
+            return sum;
         }
         let i = (node - 1) as usize;
-        loads[i] += rate as u32 * value_of(gaps, node) as u32;
+        let gap = value_of(gaps, node) as u32;
+        loads[i] += rate as u32 * gap;
+        sum += gap;
         node = parent;
     }
 }
 
-// The sums of the widths on all links, each route gone up once.
-fn loads_of(site: Site) -> [u32; 63]
-    ensures { λ r. ⌜ (length r ≡ 63) × ((i : ℕ) → i < 63 → getD r i 0 ≡ load site (i + 1)) ⌝ }
+// The sums of the widths on all links, and the first late flow, or 64.
+struct Reserved {
+    loads: [u32; 63],
+    late: usize,
+}
+
+// Goes up each live flow's route once, from the last flow down: so the late flow met last is the first.
+fn reserved_of(site: Site) -> Reserved
+    ensures { λ r. ⌜ Loads site (r .loads) × (r .late ≡ firstLate site) ⌝ }
 {
     let gaps = gaps_judged(site);
-    let parents = site.parents;
     let mut loads = [0u32; 63];
-    let mut n = 0;
-    while n < 64 {
+    let mut late = 64;
+    let mut n = 64;
+    while 0 < n {
+        n -= 1;
         if site.states[n] == 1 {
-            add_widths(&gaps, &parents, site.entries[n], site.rates[n], &mut loads);
+            let entry = site.entries[n];
+            let rate = site.rates[n];
+            let sum = add_widths(&gaps, &site.parents, entry, rate, &mut loads);
+            if (site.deadlines[n] as u32) < sum {
+                late = n;
+            }
         }
-        n += 1;
     }
-    loads
+    Reserved { loads, late }
 }
 
 // 01, 12: the index of the first link with widths above its capacity, or the number of links.
-pub fn first_over(site: Site) -> usize
-    ensures { λ r. ⌜ r ≡ firstOver site ⌝ }
+// 01, 13: the first live flow whose judged gaps sum to more than its deadline, or 64.
+pub struct Faults {
+    pub over: usize,
+    pub late: usize,
+}
+
+pub fn first_faults(site: Site) -> Faults
+    ensures { λ r. ⌜ (r .over ≡ firstOver site) × (r .late ≡ firstLate site) ⌝ }
 {
     let links = link_count(site.links);
-    let loads = loads_of(site);
+    let reserved = reserved_of(site);
     let mut i = 0;
     while i < links {
-        if (site.capacities[i] as u32) < loads[i] {
-            return i;
+        if (site.capacities[i] as u32) < reserved.loads[i] {
+            break;
         }
         i += 1;
     }
-    i
+    Faults {
+        over: i,
+        late: reserved.late,
+    }
 }
 
 // 01, 17: the first link from the flow's entry node up on which its width does not fit beside the live ones, or 0.
@@ -89,39 +113,20 @@ pub fn first_unfit(site: Site, flow: Flow) -> u8
     ensures { λ r. ⌜ r ≡ firstUnfit site (flow .rate) (route (site .parents) (flow .entry)) ⌝ }
 {
     let gaps = gaps_judged(site);
-    let parents = site.parents;
-    let loads = loads_of(site);
+    let reserved = reserved_of(site);
     let mut link = flow.entry;
     loop {
-        let parent = parent_of(&parents, link);
+        let parent = parent_of(&site.parents, link);
         if link <= parent {
             return 0;
         }
         let i = (link - 1) as usize;
         let width = flow.rate as u32 * value_of(&gaps, link) as u32;
-        if (site.capacities[i] as u32) < loads[i] + width {
+        if (site.capacities[i] as u32) < reserved.loads[i] + width {
             return link;
         }
         link = parent;
     }
-}
-
-// 01, 13: the first live flow whose judged gaps sum to more than its deadline, or 64.
-pub fn first_late(site: Site) -> usize
-    ensures { λ r. ⌜ r ≡ firstLate site ⌝ }
-{
-    let gaps = gaps_judged(site);
-    let parents = site.parents;
-    let mut n = 0;
-    while n < 64 {
-        if site.states[n] == 1 {
-            if (site.deadlines[n] as u32) < sum_along(&gaps, &parents, site.entries[n]) {
-                return n;
-            }
-        }
-        n += 1;
-    }
-    n
 }
 
 // 01, 18: the judged gaps from the node up to the root, summed.
@@ -129,8 +134,7 @@ pub fn gaps_along(site: Site, node: u8) -> u32
     ensures { λ r. ⌜ r ≡ along (gapsJudged site) (route (site .parents) node) ⌝ }
 {
     let gaps = gaps_judged(site);
-    let parents = site.parents;
-    sum_along(&gaps, &parents, node)
+    sum_along(&gaps, &site.parents, node)
 }
 
 // 01: G, the sum of the periods on the flow's route.
@@ -141,7 +145,6 @@ pub fn delay_bound(site: Site, number: u8) -> u32
     if 64 <= n {
         return 0;
     }
-    let periods = site.periods;
-    let parents = site.parents;
-    sum_along(&periods, &parents, site.entries[n])
+    let entry = site.entries[n];
+    sum_along(&site.periods, &site.parents, entry)
 }

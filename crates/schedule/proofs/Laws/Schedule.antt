@@ -5,7 +5,7 @@ use mathlib.Core.Bool.{Bool, true, false, not, cond, _&&_}
 use mathlib.Core.Logic.{_⊎_, inl, inr}
 use mathlib.Core.List.{List, [], _∷_, _++_, append-nil}
 use lib.Dec.{eqb}
-use lib.ListN.{length, getD, take, drop, set, replicate, length-append, length-set, length-replicate}
+use lib.ListN.{length, getD, take, drop, set, replicate, length-append, length-set, length-replicate, getD-replicate}
 use lib.Seq.{length-take-le, length-front, take-at, take-suc-set, getD-append-seam, getD-set-same, getD-set-other, getD-take, ext-getD}
 use borrow.Author.Count.{below-more}
 use borrow.Author.Tests.{lt-ltb, le-ltb, le-leb, lt-leb, eq-eqb, ne-eqb, eqb-true}
@@ -24,7 +24,7 @@ use Rattle.site.specs.Sites.{used}
 use Rattle.schedule.specs.Schedule.{kept, gapsFrom, gapsUnder, rank, dealtUnder, baseOf, baseUnder, crowded, firstCrowded}
 use Rattle.schedule.specs.Schedule.{entryDealt, listed, offsetsDealt, periodsDealt}
 use Rattle.schedule.specs.Words.{Wellgapped}
-use Rattle.schedule.specs.Inner.{Counted, GapsOf, DealtTo, Spread, SlotsOf}
+use Rattle.schedule.specs.Inner.{NextChild, Chained, Rising, Chain, GapsOf, DealtTo, Spread, SlotsOf}
 
 kept-append : (t : Bool) (x : ℕ) (xs ys : List ℕ) → kept t x (xs ++ ys) ≡ kept t x xs ++ ys
 kept-append true x xs ys = refl
@@ -75,69 +75,106 @@ module _ (parents gaps : List ℕ) (p : ℕ) where
   unfolding gapsFrom
   gaps-more-other i n = gaps-append i 1 0 ∙ rw (zero-add, gaps-other 0 i n, append-nil)
 
-  -- How many children stand before the next link.
+  -- With a child there is one more of them.
   length-child : (i : ℕ) → getD parents i 0 ≡ p → length (gapsFrom parents gaps p (i + 1) 0) ≡ length (gapsFrom parents gaps p i 0) + 1
   length-child i e = rw (gaps-more-child i e, length-append)
 
-  length-other : (i : ℕ) → (getD parents i 0 ≡ p → ⊥) → length (gapsFrom parents gaps p (i + 1) 0) ≡ length (gapsFrom parents gaps p i 0)
-  length-other i n = rw (gaps-more-other i n)
+  -- Up to the next child no gap is added.
+  gaps-skip : (i d : ℕ) → ((j : ℕ) → i ≤ j → j < i + d → getD parents j 0 ≡ p → ⊥) → gapsFrom parents gaps p (i + d) 0 ≡ gapsFrom parents gaps p i 0
+  gaps-skip i zero none = rw add-zero
+  gaps-skip i (suc d) none =
+      let e : i + suc d ≡ i + d + 1 = omega arith in
+      rw e (gaps-more-other (i + d) (none (i + d) (omega arith) (omega arith)) ∙ gaps-skip i d (λ j a b. none j a (omega arith)))
+
+  gaps-next : (n i x : ℕ) → NextChild parents n p i x → gapsFrom parents gaps p x 0 ≡ gapsFrom parents gaps p i 0
+  gaps-next n i x w =
+      let e : x ≡ i + (x - i) = omega (arith, w .behind) in
+      ap (λ (m : ℕ). gapsFrom parents gaps p m 0) e ∙ gaps-skip i (x - i) (λ j a b. w .none j a (omega arith))
 
 pub getD-replicated : (n i x : ℕ) → getD (replicate n x) i x ≡ x
 getD-replicated zero i x = refl
 getD-replicated (suc n) zero x = refl
 getD-replicated (suc n) (suc i) x = getD-replicated n i x
 
--- children_counted, past the first i links.
-module _ (parents : List ℕ) where
-  pub counted-start : Counted parents 0 (replicate 64 0)
-  unfolding gapsFrom
-  counted-start = record { long = refl; each = λ gaps p l. getD-replicated 64 p 0 }
+-- chains_of, past the links from index i on.
+module _ (parents : List ℕ) (n : ℕ) where
+  pub chained-start : (first next : List ℕ) → first ≡ replicate 256 n → length next ≡ 63 → Chained parents n n first next
+  chained-start first next e l = record {
+    upto = omega arith;
+    first-long = rw e (length-replicate 256 n);
+    next-long = l;
+    heads = λ p m. rw (e, getD-replicate {A = ℕ} 256 p n 0 m)
+        (record { behind = omega arith; within = omega arith; none = λ j a b. absurd (omega arith); child = λ b. absurd (omega arith) });
+    leads = λ k a b. absurd (omega arith);
+  }
 
-  module _ (i : ℕ) (counts : List ℕ) (c : Counted parents i counts) where
-    -- The next link's parent is a node: it has a child more.
-    module _ (l : getD parents i 0 < 64) where
-      pub counted-few : getD counts (getD parents i 0) 0 ≤ i
-      counted-few = rw (c .each [] (getD parents i 0) l) (gaps-length parents [] (getD parents i 0) i 0)
+  -- The link before them is the first child of its parent, and leads to the one that was.
+  pub chained-more : (i k : ℕ) (first next : List ℕ) → Chained parents n i first next → i ≡ k + 1 → k < 63 → getD parents k 0 < 256
+      → Chained parents n k (set first (getD parents k 0) k) (set next k (getD first (getD parents k 0) 0))
+  chained-more i k first next w e few byte =
+      record {
+        upto = omega (arith, w .upto);
+        first-long = simp length-set (w .first-long);
+        next-long = simp length-set (w .next-long);
+        heads = heads;
+        leads = λ j a l. leads j l (eq-or-lt-of-le a);
+      }
+    where
+      heads : (q : ℕ) → q < 256 → NextChild parents n q k (getD (set first (getD parents k 0) k) q 0)
+      heads q m = elim (ℕ-discrete q (getD parents k 0)) [
+        | yes z ↦
+            rw (z, getD-set-same first (getD parents k 0) k 0 (omega (arith, w .first-long)))
+            (record { behind = omega arith; within = omega (arith, w .upto); none = λ j a b. absurd (omega arith); child = λ b. refl })
+        | no z ↦ rw (getD-set-other first (getD parents k 0) q k 0 z) (record {
+          behind = omega (arith, w .heads q m .behind);
+          within = w .heads q m .within;
+          none = λ j a b c. elim (eq-or-lt-of-le a) [ inl y ↦ z (sym c ∙ ap (λ (x : ℕ). getD parents x 0) (sym y)) | inr y ↦ w .heads q m .none j (omega arith) b c ];
+          child = w .heads q m .child;
+        })
+      ]
 
-      pub counted-more : Counted parents (i + 1) (set counts (getD parents i 0) (getD counts (getD parents i 0) 0 + 1))
-      counted-more =
-          let p = getD parents i 0 in
-          record {
-            long = simp length-set (c .long);
-            each = λ gaps q m. elim (ℕ-discrete q p) [
-              | yes e ↦
-                  rw e (getD-set-same counts p (getD counts p 0 + 1) 0 (omega (arith, c .long)) ∙ ap (λ (n : ℕ). n + 1) (c .each gaps p l)
-                  ∙ sym (length-child parents gaps p i refl))
-              | no n ↦
-                  getD-set-other counts p q (getD counts p 0 + 1) 0 n ∙ c .each gaps q m ∙ sym (length-other parents gaps q i (λ e. n (sym e)))
-            ];
-          }
+      leads : (j : ℕ) → j < n → (k ≡ j) ⊎ (k < j) → NextChild parents n (getD parents j 0) (j + 1) (getD (set next k (getD first (getD parents k 0) 0)) j 0)
+      leads j l (inl y) = rw (← y, getD-set-same next k (getD first (getD parents k 0) 0) 0 (omega (arith, w .next-long)), ← e) (w .heads (getD parents k 0) byte)
+      leads j l (inr y) = rw (getD-set-other next k j (getD first (getD parents k 0) 0) 0 (λ z. omega arith)) (w .leads j (omega arith) l)
 
-    -- It is none: nobody asks for its children.
-    pub counted-none : 64 ≤ getD parents i 0 → Counted parents (i + 1) counts
-    counted-none l =
-        record { long = c .long; each = λ gaps q m. c .each gaps q m ∙ sym (length-other parents gaps q i (λ e. omega arith)) }
+  module _ (first next : List ℕ) (w : Chained parents n 0 first next) where
+    pub chained-rising : Rising n next
+    chained-rising = record { long = w .next-long; step = λ i l. (omega (arith, w .leads i (omega arith) l .behind), w .leads i (omega arith) l .within) }
+
+    pub chained-chain : (p : ℕ) → p < 256 → Chain parents next n p (getD first p 0)
+    chained-chain p m = record { head = w .heads p m; leads = λ i l e. rw e at (w .leads i (omega arith) l) }
 
 used-most : (links : ℕ) → used links ≤ 63
 unfolding used
 used-most links = omega arith
 
--- gaps_under, past the first i links: the first `count` entries are the gaps of p's children among them.
-module _ (parents gaps : List ℕ) (p : ℕ) where
-  pub gathered-start : (wanted : List ℕ) → length wanted ≡ 63 → GapsOf (gapsFrom parents gaps p 0 0) 0 wanted
+-- gaps_under, at the child at index i: the first `count` entries are the gaps of p's children before it.
+pub record Gathering (parents gaps : List ℕ) (n p i count : ℕ) (wanted : List ℕ) : Type 0 where
+  pub child : i < n → getD parents i 0 ≡ p
+  pub gathered : GapsOf (gapsFrom parents gaps p i 0) count wanted
+
+module _ (parents gaps next : List ℕ) (n p x : ℕ) (chain : Chain parents next n p x) where
+  pub gathering-start : (wanted : List ℕ) → length wanted ≡ 63 → Gathering parents gaps n p x 0 wanted
   unfolding gapsFrom
-  gathered-start wanted l = record { long = l; few = omega arith; are = refl }
+  gathering-start wanted l = record {
+    child = chain .head .child;
+    gathered = rw (gaps-next parents gaps p n 0 x (chain .head)) (record { long = l; few = omega arith; are = refl });
+  }
 
-  module _ (i count : ℕ) (wanted : List ℕ) (g : GapsOf (gapsFrom parents gaps p i 0) count wanted) where
-    pub gathered-child : count < 63 → getD parents i 0 ≡ p → GapsOf (gapsFrom parents gaps p (i + 1) 0) (count + 1) (set wanted count (getD gaps i 0))
-    gathered-child l e = record {
-      long = simp length-set (g .long);
-      few = omega arith;
-      are = rw (add-one count, take-suc-set wanted count (getD gaps i 0) (omega (arith, g .long)), g .are, gaps-more-child parents gaps p i e);
-    }
-
-    pub gathered-other : (getD parents i 0 ≡ p → ⊥) → GapsOf (gapsFrom parents gaps p (i + 1) 0) count wanted
-    gathered-other n = rw (gaps-more-other parents gaps p i n) g
+  pub gathering-more : (i count : ℕ) (wanted : List ℕ) → Gathering parents gaps n p i count wanted → i < n → count < 63
+      → Gathering parents gaps n p (getD next i 0) (count + 1) (set wanted count (getD gaps i 0))
+  gathering-more i count wanted w l m =
+      let e = w .child l in
+      let g = w .gathered in
+      let on = chain .leads i l e in
+      record {
+        child = on .child;
+        gathered = rw (gaps-next parents gaps p n (i + 1) (getD next i 0) on) (record {
+          long = simp length-set (g .long);
+          few = omega arith;
+          are = rw (add-one count, take-suc-set wanted count (getD gaps i 0) (omega (arith, g .long)), g .are, gaps-more-child parents gaps p i e);
+        });
+      }
 
 -- Past all links of a site they are those of all p's children.
 pub gathered-all : (s : Site) (n p m : ℕ) (gaps : List ℕ) → n ≡ used (s .links) → GapsOf (gapsFrom (s .parents) (s .gaps) p n 0) m gaps
@@ -159,46 +196,54 @@ module _ (s : Site) (p : ℕ) where
       let split = gaps-split (s .parents) (s .gaps) p (used (s .links)) i l e in
       (rw (split, length-append) (omega arith), rw split (getD-append-seam (gapsFrom (s .parents) (s .gaps) p i 0) (getD (s .gaps) i 0) _ 0))
 
--- spread, past the first i links: k of them are p's children.
-pub record Ranked (parents : List ℕ) (p i k : ℕ) : Type 0 where
-  pub few : k ≤ i
+-- spread, at the child at index i: k of p's children stand before it, and have their entries.
+pub record Handing (parents : List ℕ) (n p i k : ℕ) (values list r : List ℕ) : Type 0 where
+  pub child : i < n → getD parents i 0 ≡ p
   pub number : (gaps : List ℕ) → k ≡ length (gapsFrom parents gaps p i 0)
+  pub handed : Spread parents i p values list r
 
-module _ (parents : List ℕ) (p : ℕ) where
-  pub ranked-start : Ranked parents p 0 0
-  unfolding gapsFrom
-  ranked-start = record { few = omega arith; number = λ gaps. refl }
+module _ (parents : List ℕ) (p : ℕ) (values list : List ℕ) where
+  -- Up to the next child nobody gets an entry.
+  spread-next : (n i x : ℕ) (r : List ℕ) → NextChild parents n p i x → Spread parents i p values list r → Spread parents x p values list r
+  spread-next n i x r w h = record {
+    long = h .long;
+    child = λ gaps j l q. elim (lt-or-le j i) [ inl m ↦ h .child gaps j m q | inr m ↦ absurd (w .none j m l q) ];
+    other = λ j m. h .other j (λ l q. m (omega (arith, w .behind)) q);
+  }
 
-  pub handed-start : (values list : List ℕ) → length list ≡ 63 → Spread parents 0 p values list list
-  handed-start values list l = record { long = l; child = λ gaps j m. absurd (omega arith); other = λ j n. refl }
+  module _ (next : List ℕ) (n x : ℕ) (chain : Chain parents next n p x) where
+    pub handing-start : length list ≡ 63 → Handing parents n p x 0 values list list
+    unfolding gapsFrom
+    handing-start l = record {
+      child = chain .head .child;
+      number = λ gaps. rw (gaps-next parents gaps p n 0 x (chain .head));
+      handed = spread-next n 0 x list (chain .head) (record { long = l; child = λ gaps j m. absurd (omega arith); other = λ j m. refl });
+    }
 
-  module _ (i k : ℕ) (h : Ranked parents p i k) where
-    pub ranked-child : getD parents i 0 ≡ p → Ranked parents p (i + 1) (k + 1)
-    ranked-child e = record { few = omega (arith, h .few); number = λ gaps. rw (length-child parents gaps p i e, h .number gaps) }
-
-    pub ranked-other : (getD parents i 0 ≡ p → ⊥) → Ranked parents p (i + 1) k
-    ranked-other n = record { few = omega (arith, h .few); number = λ gaps. h .number gaps ∙ sym (length-other parents gaps p i n) }
-
-    module _ (values list next : List ℕ) (w : Spread parents i p values list next) where
-      pub handed-child : i < 63 → getD parents i 0 ≡ p → Spread parents (i + 1) p values list (set next i (getD values k 0))
-      handed-child l e = record {
-        long = simp length-set (w .long);
-        child = λ gaps. below-more _ i (λ j m q. getD-set-other next i j (getD values k 0) 0 (λ z. omega arith) ∙ w .child gaps j m q)
-            (λ q. getD-set-same next i (getD values k 0) 0 (omega (arith, w .long)) ∙ rw (h .number gaps));
-        other = λ j n. getD-set-other next i j (getD values k 0) 0 (λ z. n (omega arith) (rw z e)) ∙ w .other j (λ m q. n (omega arith) q);
-      }
-
-      pub handed-other : (getD parents i 0 ≡ p → ⊥) → Spread parents (i + 1) p values list next
-      handed-other n = record {
-        long = w .long;
-        child = λ gaps. below-more _ i (w .child gaps) (λ q. absurd (n q));
-        other = λ j m. w .other j (λ b q. m (omega arith) q);
-      }
+    pub handing-more : (i k : ℕ) (r : List ℕ) → Handing parents n p i k values list r → i < n → i < 63
+        → Handing parents n p (getD next i 0) (k + 1) values list (set r i (getD values k 0))
+    handing-more i k r w l m =
+        let e = w .child l in
+        let h = w .handed in
+        let on = chain .leads i l e in
+        record {
+          child = on .child;
+          number = λ gaps. rw (gaps-next parents gaps p n (i + 1) (getD next i 0) on, length-child parents gaps p i e, w .number gaps);
+          handed = spread-next n (i + 1) (getD next i 0) (set r i (getD values k 0)) on (record {
+            long = simp length-set (h .long);
+            child = λ gaps. below-more _ i (λ j b q. getD-set-other r i j (getD values k 0) 0 (λ z. omega arith) ∙ h .child gaps j b q)
+                (λ q. getD-set-same r i (getD values k 0) 0 (omega (arith, h .long)) ∙ rw (w .number gaps));
+            other = λ j b. getD-set-other r i j (getD values k 0) 0 (λ z. b (omega arith) (rw z e)) ∙ h .other j (λ a q. b (omega arith) q);
+          });
+        }
 
 take-replicate : (n m x : ℕ) → n ≤ m → take n (replicate m x) ≡ replicate n x
 take-replicate zero m x l = refl
 take-replicate (suc n) zero x l = absurd (omega arith)
 take-replicate (suc n) (suc m) x l = ap (λ (xs : List ℕ). x ∷ xs) (take-replicate n m x (omega arith))
+
+pub zeros-front : (xs : List ℕ) (n : ℕ) → xs ≡ replicate 63 0 → n ≤ 63 → length (take n xs) ≡ n
+zeros-front xs n z l = rw z (length-take-le n (replicate 63 0) l)
 
 -- The gaps gathered are as many as the children.
 gaps-number : (wanted : List ℕ) (n : ℕ) (gaps : List ℕ) → GapsOf wanted n gaps → n ≡ length wanted
@@ -222,13 +267,10 @@ module _ (s : Site) (p n : ℕ) (gaps zs ys : List ℕ) (g : GapsOf (gapsUnder s
         number = gaps-number (gapsUnder s p) n gaps g;
         few = g .few;
         base = q ∙ ap (λ (r : Outcome ℕ × List ℕ × List ℕ). baseOf (r .0)) told;
-        offsets = take-at os (drop n zs) n (o ∙ front zs z) ∙ ap (λ (r : Outcome ℕ × List ℕ × List ℕ). r .1) told;
-        periods = take-at ps (drop n ys) n (k ∙ front ys y) ∙ ap (λ (r : Outcome ℕ × List ℕ × List ℕ). r .2) told;
+        offsets = take-at os (drop n zs) n (o ∙ zeros-front zs n z (g .few)) ∙ ap (λ (r : Outcome ℕ × List ℕ × List ℕ). r .1) told;
+        periods = take-at ps (drop n ys) n (k ∙ zeros-front ys n y (g .few)) ∙ ap (λ (r : Outcome ℕ × List ℕ × List ℕ). r .2) told;
       }
     where
-      front : (xs : List ℕ) → xs ≡ replicate 63 0 → length (take n xs) ≡ n
-      front xs f = rw f (length-take-le n (replicate 63 0) (g .few))
-
       told : (answer, os, ps) ≡ dealtUnder s p
       told = e ∙ same
 
@@ -317,29 +359,29 @@ module _ (s : Site) (lists : ℕ → List ℕ) where
         go i (inl l) (inr m) = e .some i l (omega arith) ∙ sym (entry-some s lists i l m)
 
 -- deal_all, with the parents below p done: none of them is crowded, and both lists have what is dealt to their children.
-pub record Dealing (s : Site) (n : ℕ) (counts : List ℕ) (p : ℕ) (os ps : List ℕ) : Type 0 where
+pub record Dealing (s : Site) (n : ℕ) (first next : List ℕ) (p : ℕ) (os ps : List ℕ) : Type 0 where
   pub all : n ≡ used (s .links)
   pub links : n ≤ 63
-  pub counted : Counted (s .parents) n counts
+  pub chained : Chained (s .parents) n 0 first next
   pub most : p ≤ n + 1
   pub passed : (q : ℕ) → q < p → crowded s q ≡ false
   pub offsets : Entered s (λ q. dealtUnder s q .1) p os
   pub periods : Entered s (λ q. dealtUnder s q .2) p ps
 
-module _ (s : Site) (n : ℕ) (counts : List ℕ) where
-  pub dealing-start : n ≡ used (s .links) → Counted (s .parents) n counts → (os ps : List ℕ) → os ≡ replicate 63 0 → ps ≡ replicate 63 0
-      → Dealing s n counts 0 os ps
+module _ (s : Site) (n : ℕ) (first next : List ℕ) where
+  pub dealing-start : n ≡ used (s .links) → Chained (s .parents) n 0 first next → (os ps : List ℕ) → os ≡ replicate 63 0 → ps ≡ replicate 63 0
+      → Dealing s n first next 0 os ps
   dealing-start u c os ps o q = record {
     all = u;
     links = omega (arith, used-most (s .links));
-    counted = c;
+    chained = c;
     most = omega arith;
     passed = λ q l. absurd (omega arith);
     offsets = entered-start _ _ os o;
     periods = entered-start _ _ ps q;
   }
 
-  module _ (p : ℕ) (os ps : List ℕ) (d : Dealing s n counts p os ps) where
+  module _ (p : ℕ) (os ps : List ℕ) (d : Dealing s n first next p os ps) where
     pub dealing-end : n < p → SlotsOf s p os ps
     unfolding firstCrowded offsetsDealt periodsDealt
     dealing-end l = record {
@@ -349,20 +391,20 @@ module _ (s : Site) (n : ℕ) (counts : List ℕ) where
     }
 
     module _ (l : p ≤ n) where
-      -- The count at p is the number of its children.
-      number : getD counts p 0 ≡ length (gapsUnder s p)
-      unfolding gapsUnder
-      number = rw (← d .all) (d .counted .each (s .gaps) p (omega arith))
+      -- Its first child, if it has one, is one of the links.
+      head : NextChild (s .parents) n p 0 (getD first p 0)
+      head = d .chained .heads p (omega (arith, d .links))
 
       -- With no children under p.
-      pub dealing-none : getD counts p 0 ≡ 0 → Dealing s n counts (p + 1) os ps
-      unfolding crowded
-      dealing-none z =
-          let none : length (gapsUnder s p) ≡ 0 = omega (arith, number) in
+      pub dealing-none : n ≤ getD first p 0 → Dealing s n first next (p + 1) os ps
+      unfolding crowded gapsUnder gapsFrom
+      dealing-none h =
+          let last : getD first p 0 ≡ n = omega (arith, head .within) in
+          let none : length (gapsUnder s p) ≡ 0 = ap length (rw (last, d .all) at (gaps-next (s .parents) (s .gaps) p n 0 (getD first p 0) head)) in
           record {
             all = d .all;
             links = d .links;
-            counted = d .counted;
+            chained = d .chained;
             most = omega arith;
             passed = below-more _ p (d .passed) (simp (eq-eqb _ _ none));
             offsets = entered-skip _ _ p os (d .offsets) none;
@@ -371,10 +413,10 @@ module _ (s : Site) (n : ℕ) (counts : List ℕ) where
 
       -- With what the slot rule deals under p.
       module _ (b m : ℕ) (vs ws : List ℕ) (t : DealtTo s p b m vs ws) where
-        pub dealing-crowded : 0 < getD counts p 0 → b ≡ 0 → SlotsOf s p os ps
+        pub dealing-crowded : getD first p 0 < n → b ≡ 0 → SlotsOf s p os ps
         unfolding firstCrowded crowded
         dealing-crowded some z =
-            let k : length (gapsUnder s p) ≡ 0 → ⊥ = omega (arith, number) in
+            let k : length (gapsUnder s p) ≡ 0 → ⊥ = omega (arith, child-gap s p (getD first p 0) (rw (d .all) at some) (head .child some) .0) in
             record {
               crowded = sym (first-is (crowded s) (used (s .links) + 1) 0 p (omega arith) (omega arith)
                   (simp (ne-eqb _ _ k, eq-eqb _ _ (sym (t .base) ∙ z))) (d .passed));
@@ -391,11 +433,11 @@ module _ (s : Site) (n : ℕ) (counts : List ℕ) where
             go false = refl
 
         pub dealing-more : (b ≡ 0 → ⊥) → (os′ ps′ : List ℕ) → Spread (s .parents) n p vs os os′ → Spread (s .parents) n p ws ps ps′
-            → Dealing s n counts (p + 1) os′ ps′
+            → Dealing s n first next (p + 1) os′ ps′
         dealing-more fits os′ ps′ o q = record {
           all = d .all;
           links = d .links;
-          counted = d .counted;
+          chained = d .chained;
           most = omega arith;
           passed = below-more _ p (d .passed) (fit fits);
           offsets = entered-more _ _ p os (d .offsets) m vs (t .number) (t .offsets) os′ (rw (d .all) at o);

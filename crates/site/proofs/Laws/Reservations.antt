@@ -8,16 +8,17 @@ use lib.Dec.{eqb, ltb}
 use lib.ListN.{length, getD, set, replicate, length-set, getD-replicate, List·getD-eq-default}
 use lib.Seq.{getD-set-same, getD-set-other, set-out}
 use borrow.Author.Tests.{lt-ltb, le-ltb, eq-eqb, ne-eqb, eqb-true, eqb-false}
-use native.Mathlib.Nat.{mul-le-mul, suc-mul, eq-or-lt-of-le}
+use native.Mathlib.Nat.{mul-le-mul, suc-mul, zero-add, eq-or-lt-of-le}
 use native.Mathlib.Numerals.{add-one}
 use native.Mathlib.Omega.{arith}
-use Rattle.pinwheel.proofs.Laws.Search.{lt-or-le}
+use Rattle.pinwheel.specs.Search.{first, firstIn}
+use Rattle.pinwheel.proofs.Laws.Search.{lt-or-le, first-hit, first-miss}
 use Rattle.site.specs.declared.Site.{Site}
 use Rattle.site.specs.declared.Flow.{Flow}
 use Rattle.site.specs.Sites.{ofLink, live, withFields, withFlow, withoutFlow}
 use Rattle.site.specs.Tree.{up, route, has}
-use Rattle.site.specs.Reservations.{gapsJudged, routeOf, widthAt, widthOn, sumTo, load, over, unfit, firstUnfit, along, late, delayBound}
-use Rattle.site.specs.Inner.{carried}
+use Rattle.site.specs.Reservations.{gapsJudged, routeOf, widthAt, widthOn, sumTo, load, over, unfit, firstUnfit, along, late, firstLate, delayBound}
+use Rattle.site.specs.Inner.{carried, Loads}
 use Rattle.site.proofs.Laws.Tree.{link-in, way-up, route-up, route-end, route-root, route-within, up-within}
 
 -- The sum over a route, link by link: `sum` has the links below node n. A step adds at most one entry and goes to a smaller number,
@@ -148,63 +149,85 @@ module _ (s : Site) (m n : ℕ) where
       go true = width-le _ _ (r n) (link-le (gapsJudged s) 65535 g m)
       go false = omega arith
 
--- The loads of the 63 links by the flows with numbers below n.
-pub record Loaded (s : Site) (n : ℕ) (loads : List ℕ) : Type 0 where
-  pub upto : n ≤ 64
-  pub long : length loads ≡ 63
-  pub each : (i : ℕ) → i < 63 → getD loads i 0 ≡ sumTo (widthOn s (i + 1)) n
-
-module _ (s : Site) where
-  pub loaded-start : Loaded s 0 (replicate 63 0)
-  unfolding sumTo
-  loaded-start = record { upto = omega arith; long = refl; each = λ i l. getD-replicate 63 i 0 0 l }
-
-  -- 64 widths of at most 255 * 65535 leave room for one more in 32 bits.
-  pub loaded-le : (n : ℕ) (loads : List ℕ) → Loaded s n loads
-      → ((i : ℕ) → getD (s .rates) i 0 ≤ 255) → ((i : ℕ) → getD (gapsJudged s) i 0 ≤ 65535) → (i : ℕ) → getD loads i 0 ≤ 4000000000
-  loaded-le n loads w r g i =
-      ⊎-elim (λ l. rw (w .each i l) (omega (arith, w .upto, sum-le (widthOn s (i + 1)) 16711425 n (λ k. width-on-le s (i + 1) k r g))))
-      (λ l. rw (List·getD-eq-default loads 0 {n = i} (omega (arith, w .long))) (omega arith)) (lt-or-le i 63)
-
-  pub loaded-live : (n : ℕ) (gaps loads next : List ℕ) → Loaded s n loads → n < 64 → getD (s .states) n 0 ≡ 1 → gaps ≡ gapsJudged s
-      → next ≡ carried gaps (getD (s .rates) n 0) (route (s .parents) (getD (s .entries) n 0)) loads → Loaded s (n + 1) next
-  unfolding live routeOf
-  loaded-live n gaps loads next w l e g q = record {
-    upto = omega arith;
-    long = rw q (carried-long gaps (getD (s .rates) n 0) (route (s .parents) (getD (s .entries) n 0)) loads ∙ w .long);
-    each = λ i h. rw (q, sum-more (widthOn s (i + 1)) n, width-live s (i + 1) n (eq-eqb _ _ e), ← g, ← w .each i h)
-        (carried-at gaps (getD (s .rates) n 0) (s .parents) i (getD (s .entries) n 0) loads (omega (arith, w .long)));
-  }
-
-  pub loaded-none : (n : ℕ) (loads : List ℕ) → Loaded s n loads → n < 64 → (getD (s .states) n 0 ≡ 1 → ⊥) → Loaded s (n + 1) loads
-  unfolding live
-  loaded-none n loads w l e = record {
-    upto = omega arith;
-    long = w .long;
-    each = λ i h. rw (sum-more (widthOn s (i + 1)) n, width-none s (i + 1) n (ne-eqb _ _ e), ← w .each i h) (omega arith);
-  }
-
-  pub loaded-end : (n : ℕ) (loads : List ℕ) → Loaded s n loads → 64 ≤ n → (length loads ≡ 63) × ((i : ℕ) → i < 63 → getD loads i 0 ≡ load s (i + 1))
-  unfolding load
-  loaded-end n loads w l = let e : n ≡ 64 = omega (arith, w .upto) in (w .long, λ i h. w .each i h ∙ ap (λ (k : ℕ). sumTo (widthOn s (i + 1)) k) e)
+-- 64 widths of at most 255 * 65535.
+pub load-le : (s : Site) (m : ℕ) → ((i : ℕ) → getD (s .rates) i 0 ≤ 255) → ((i : ℕ) → getD (gapsJudged s) i 0 ≤ 65535) → load s m ≤ 1069531200
+unfolding load
+load-le s m r g = sum-le (widthOn s m) 16711425 64 (λ k. width-on-le s m k r g)
 
 -- Whether a flow is late, by the sum that the code made for it.
 module _ (s : Site) (n : ℕ) where
-  pub late-none : (getD (s .states) n 0 ≡ 1 → ⊥) → late s n ≡ false
+  late-none : (getD (s .states) n 0 ≡ 1 → ⊥) → late s n ≡ false
   unfolding late live
   late-none e = rw (ne-eqb _ _ e)
 
-  module _ (gaps : List ℕ) (sum : ℕ) (e : getD (s .states) n 0 ≡ 1) (g : gaps ≡ gapsJudged s)
-      (q : sum ≡ along gaps (route (s .parents) (getD (s .entries) n 0))) where
-    late-judged : late s n ≡ ltb (getD (s .deadlines) n 0) sum
-    unfolding late live routeOf
-    late-judged = rw (eq-eqb _ _ e, q, g)
+  late-judged : (sum : ℕ) → getD (s .states) n 0 ≡ 1 → sum ≡ along (gapsJudged s) (routeOf s n) → late s n ≡ ltb (getD (s .deadlines) n 0) sum
+  unfolding late live
+  late-judged sum e q = rw (eq-eqb _ _ e, q)
 
-    pub late-over : getD (s .deadlines) n 0 < sum → late s n ≡ true
-    late-over l = late-judged ∙ lt-ltb _ _ l
+-- Flows from n on are done: with the widths of those before n the loads are whole, and the first late one is the first from n on.
+pub record Judging (s : Site) (n : ℕ) (loads : List ℕ) (first : ℕ) : Type 0 where
+  pub upto : n ≤ 64
+  pub long : length loads ≡ 63
+  pub each : (i : ℕ) → i < 63 → getD loads i 0 + sumTo (widthOn s (i + 1)) n ≡ load s (i + 1)
+  pub found : first ≡ firstIn (late s) 64 n
 
-    pub late-kept : sum ≤ getD (s .deadlines) n 0 → late s n ≡ false
-    late-kept l = late-judged ∙ le-ltb _ _ l
+module _ (s : Site) where
+  pub judging-start : Judging s 64 (replicate 63 0) 64
+  unfolding load first
+  judging-start = record { upto = omega arith; long = refl; each = λ i l. rw (getD-replicate {A = ℕ} 63 i 0 0 l) (zero-add _); found = refl }
+
+  module _ (n : ℕ) (loads : List ℕ) (first : ℕ) (w : Judging s n loads first) where
+    -- Loads that are not yet whole leave room for one width more in 32 bits.
+    pub judging-le : ((i : ℕ) → getD (s .rates) i 0 ≤ 255) → ((i : ℕ) → getD (gapsJudged s) i 0 ≤ 65535) → (i : ℕ) → getD loads i 0 ≤ 4000000000
+    judging-le r g i =
+        ⊎-elim (λ l. omega (arith, w .each i l, load-le s (i + 1) r g))
+        (λ l. rw (List·getD-eq-default loads 0 {n = i} (omega (arith, w .long))) (omega arith)) (lt-or-le i 63)
+
+    pub judging-end : n ≡ 0 → Loads s loads × (first ≡ firstLate s)
+    unfolding sumTo firstLate
+    judging-end z = (record { long = w .long; each = λ i l. omega (arith, rw z at (w .each i l)) }, rw z at (w .found))
+
+    -- The flow before them.
+    module _ (k : ℕ) (e : n ≡ k + 1) where
+      missed : late s k ≡ false → first ≡ firstIn (late s) 64 k
+      missed t = w .found ∙ rw e (sym (first-miss (late s) 64 k (omega (arith, w .upto)) t))
+
+      pub judging-none : (getD (s .states) k 0 ≡ 1 → ⊥) → Judging s k loads first
+      unfolding live
+      judging-none d = record {
+        upto = omega (arith, w .upto);
+        long = w .long;
+        each = λ i h. omega (arith, rw (e, sum-more (widthOn s (i + 1)) k, width-none s (i + 1) k (ne-eqb _ _ d)) at (w .each i h));
+        found = missed (late-none s k d);
+      }
+
+      -- It is live: its widths and the sum of its gaps come from one way up.
+      module _ (l : getD (s .states) k 0 ≡ 1) (gaps : List ℕ) (g : gaps ≡ gapsJudged s) (sum : ℕ) (next : List ℕ)
+          (up : (sum ≡ along gaps (route (s .parents) (getD (s .entries) k 0)))
+          × (next ≡ carried gaps (getD (s .rates) k 0) (route (s .parents) (getD (s .entries) k 0)) loads)) where
+        judged : late s k ≡ ltb (getD (s .deadlines) k 0) sum
+        unfolding routeOf
+        judged = late-judged s k sum l (rw (← g) (up .0))
+
+        more : (first′ : ℕ) → first′ ≡ firstIn (late s) 64 k → Judging s k next first′
+        unfolding live routeOf
+        more first′ f = record {
+          upto = omega (arith, w .upto);
+          long = rw (up .1) (carried-long gaps (getD (s .rates) k 0) (route (s .parents) (getD (s .entries) k 0)) loads ∙ w .long);
+          each = λ i h. omega (
+            arith,
+            rw (e, sum-more (widthOn s (i + 1)) k, width-live s (i + 1) k (eq-eqb _ _ l), ← g) at (w .each i h),
+            ap (λ (xs : List ℕ). getD xs i 0) (up .1)
+                ∙ carried-at gaps (getD (s .rates) k 0) (s .parents) i (getD (s .entries) k 0) loads (omega (arith, w .long)),
+          );
+          found = f;
+        }
+
+        pub judging-late : getD (s .deadlines) k 0 < sum → Judging s k next k
+        judging-late o = more k (sym (first-hit (late s) 64 k (omega (arith, w .upto)) (judged ∙ lt-ltb _ _ o)))
+
+        pub judging-kept : sum ≤ getD (s .deadlines) k 0 → Judging s k next first
+        judging-kept o = more first (missed (judged ∙ le-ltb _ _ o))
 
 -- Whether a link is over its capacity, by its load in a list of loads.
 module _ (s : Site) (i x : ℕ) (e : x ≡ load s (i + 1)) where
@@ -237,11 +260,6 @@ module _ (s : Site) (rate n u : ℕ) (e : u ≡ up (s .parents) n) where
 
     pub unfit-next : x + rate * g ≤ getD (s .capacities) (n - 1) 0 → firstUnfit s rate (route (s .parents) u) ≡ firstUnfit s rate (route (s .parents) n)
     unfit-next l = rw (unfit-step, unfit-test, le-ltb _ _ l)
-
--- 64 widths of at most 255 * 65535.
-pub load-le : (s : Site) (m : ℕ) → ((i : ℕ) → getD (s .rates) i 0 ≤ 255) → ((i : ℕ) → getD (gapsJudged s) i 0 ≤ 65535) → load s m ≤ 1069531200
-unfolding load
-load-le s m r g = sum-le (widthOn s m) 16711425 64 (λ k. width-on-le s m k r g)
 
 -- A number that the list of states has not is not live.
 pub dead-beyond : (s : Site) (n : ℕ) → length (s .states) ≤ n → false ≡ live s n

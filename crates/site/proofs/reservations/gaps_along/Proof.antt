@@ -9,16 +9,12 @@ gaps-judged-requires c κs = search needs
 slice-aggregate-sum-along : tie.Need-slice-aggregate-sum-along
 slice-aggregate-sum-along c = search needs
 
-slice-aggregate-sum-along-2 : tie.Need-slice-aggregate-sum-along-2
-slice-aggregate-sum-along-2 c = search needs
-
 sum-along-requires : tie.Need-sum-along-requires
 sum-along-requires c κs = search needs
 
 returns : tie.Need-returns
-returns c = rw (← c .before .before .before .before .gaps-judged .ensures) (c .sum-along .ensures)
+returns c = rw (← c .before .before .before .before .before .gaps-judged .ensures) (c .sum-along .ensures)
 
 pub gaps-along-spec : {M : Type 1} → statement M
 gaps-along-spec =
-    tie.close
-    (tie.spec gaps-judged-requires slice-aggregate-sum-along slice-aggregate-sum-along-2 sum-along-requires returns)
+    tie.close (tie.spec gaps-judged-requires slice-aggregate-sum-along sum-along-requires returns)
