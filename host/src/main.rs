@@ -1,16 +1,17 @@
 //! A second implementation of document 01, for comparison with the programs under crates/.
 
+mod bench;
 mod bytes;
 mod call_lines;
 mod calls;
 mod compare;
 mod damage;
 mod expected;
-mod fixed;
+mod functions;
 mod library;
 mod lines;
-mod measure;
 mod outcomes;
+mod plain;
 mod programs;
 mod random;
 mod random_calls;
@@ -28,7 +29,7 @@ use std::path::Path;
 use std::process::ExitCode;
 
 const USAGE: &str = "host expected [--write]\nhost random N SEED [--bin DIR]\nhost watch N SEED\n\
-    host measure PLAN_FILE";
+    host repeat ROW SITE rattle|rust N";
 
 fn random(count: &str, seed: &str, folder: &str) -> Option<u8> {
     let (count, seed) = (count.parse().ok()?, seed.parse().ok()?);
@@ -49,7 +50,9 @@ fn main() -> ExitCode {
         ["random", count, seed] => random(count, seed, "target/bin"),
         ["random", count, seed, "--bin", folder] => random(count, seed, folder),
         ["watch", count, seed] => watch(count, seed),
-        ["measure", path] => Some(measure::measure(path)),
+        ["repeat", row, site, implementation, count] => {
+            bench::repeat(row, site, implementation, count)
+        }
         _ => None,
     };
     let status = status.unwrap_or_else(|| {

@@ -1,0 +1,109 @@
+//! The sites that are measured.
+
+use crate::bytes::{flow_command, node_command, read_plan, COMMAND_LENGTH, END};
+use crate::library::NewFlow;
+use crate::rules::FLOW_NUMBERS;
+use std::array::from_fn;
+
+/// A plan with what the calls on it need.
+pub struct Case {
+    pub plan: Vec<u8>,
+    /// The plan without its last flow, which is the one that comes and goes.
+    pub without_last: Vec<u8>,
+    pub last: NewFlow,
+    /// For each flow its rate.
+    pub arrivals: [u16; FLOW_NUMBERS],
+}
+
+impl Case {
+    /// A plan without flows has none that comes or goes: such calls are refused on it.
+    pub fn of_plan(plan: Vec<u8>) -> Case {
+        let site = read_plan(&plan).expect("the plans measured are accepted");
+        let number = site.live_flows().last().copied().unwrap_or(0);
+        let mut without_last = plan.clone();
+        if site.is_live(number) {
+            without_last.truncate(plan.len() - 1 - COMMAND_LENGTH);
+            without_last.push(END);
+        }
+        Case {
+            plan,
+            without_last,
+            last: NewFlow {
+                number: number as u8,
+                entry: site.entries[number] as u8,
+                rate: site.rates[number] as u8,
+                deadline: site.deadlines[number] as u16,
+            },
+            arrivals: from_fn(|flow| site.rates[flow] as u16),
+        }
+    }
+}
+
+pub const NAMES: [&str; 3] = ["small", "typical", "largest"];
+
+pub fn case(name: &str) -> Option<Case> {
+    let plan = match name {
+        "small" => plan_p(),
+        "typical" => typical_plan(),
+        "largest" => largest_plan(),
+        _ => return None,
+    };
+    Some(Case::of_plan(plan))
+}
+
+/// Plan P of 01.
+fn plan_p() -> Vec<u8> {
+    let nodes = [
+        node_command(0, 20, 4),
+        node_command(0, 20, 6),
+        node_command(1, 9, 3),
+    ];
+    plan_of(&nodes, &[flow_command(0, 3, 3, 7)])
+}
+
+/// Twelve lanes under two relays, and two signs at the server. Each lane has a flow.
+fn typical_plan() -> Vec<u8> {
+    let mut nodes = vec![node_command(0, 100, 4), node_command(0, 100, 4)];
+    for lane in 0..12 {
+        let gaps = [12, 12, 16, 16, 24, 24];
+        nodes.push(node_command(1 + lane / 6, 100, gaps[lane as usize % 6]));
+    }
+    nodes.extend([node_command(0, 20, 64), node_command(0, 20, 64)]);
+    let lanes = 0..12;
+    let flows: Vec<_> = lanes
+        .map(|lane| flow_command(lane, 3 + lane, 1 + lane % 3, 40))
+        .collect();
+    plan_of(&nodes, &flows)
+}
+
+/// Eight nodes under the root with eight or seven children each, and 64 flows.
+pub fn largest_plan() -> Vec<u8> {
+    include_bytes!(concat!(
+        env!("CARGO_MANIFEST_DIR"),
+        "/../crates/bench_plan/stdin"
+    ))
+    .to_vec()
+}
+
+pub fn plan_of(nodes: &[Vec<u8>], flows: &[Vec<u8>]) -> Vec<u8> {
+    let mut plan = [nodes.concat(), flows.concat()].concat();
+    plan.push(END);
+    plan
+}
+
+#[cfg(test)]
+mod tests {
+    use super::*;
+    use crate::bytes;
+
+    #[test]
+    fn the_sites_are_as_large_as_their_names_say() {
+        assert_eq!(plan_p(), bytes::plan_p(9, 7));
+        let sizes = NAMES.map(|name| {
+            let site = read_plan(&case(name).unwrap().plan).unwrap();
+            (site.links, site.live_flows().len())
+        });
+        assert_eq!(sizes, [(3, 1), (16, 12), (63, 64)]);
+        assert_eq!(largest_plan().len(), 763);
+    }
+}
