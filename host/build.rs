@@ -9,7 +9,10 @@ const FOLDER: &str = "SLOTPLAN_LIBRARY";
 /// The archive that `rt staticlib embed` writes once it has proved the crate and all that it rests on.
 fn built(top: &Path) -> PathBuf {
     println!("cargo:rerun-if-changed={}", top.join("crates").display());
-    println!("cargo:rerun-if-changed={}", top.join("crates.txt").display());
+    println!(
+        "cargo:rerun-if-changed={}",
+        top.join("crates.txt").display()
+    );
     let archive = top.join("target/staticlib/libembed.a");
     println!("cargo:rerun-if-changed={}", archive.display());
     let run = Command::new("rt")
@@ -32,7 +35,14 @@ fn main() {
         Some(folder) => PathBuf::from(folder),
         None => built(&Path::new(env!("CARGO_MANIFEST_DIR")).join("..")),
     };
-    println!("cargo:rerun-if-changed={}", folder.join("libembed.a").display());
+    println!(
+        "cargo:rerun-if-changed={}",
+        folder.join("libembed.a").display()
+    );
+    println!(
+        "cargo:rustc-env=SLOTPLAN_ARCHIVE={}",
+        folder.join("libembed.a").display()
+    );
     println!("cargo:rustc-link-search=native={}", folder.display());
     println!("cargo:rustc-link-lib=static=embed");
 }

@@ -28,7 +28,12 @@ mod declared {
             out: *mut u8,
             room: usize,
         ) -> u64;
-        pub fn slotplan_start(plan: *const u8, length: usize, counters: *mut u32, lent: usize) -> u64;
+        pub fn slotplan_start(
+            plan: *const u8,
+            length: usize,
+            counters: *mut u32,
+            lent: usize,
+        ) -> u64;
         pub fn slotplan_slot(
             plan: *const u8,
             length: usize,
@@ -72,7 +77,9 @@ pub fn mark(plan: &[u8]) -> Result<(u64, u64), Refusal> {
 }
 
 pub fn schedule(plan: &[u8], out: &mut [u8]) -> Answer {
-    told(unsafe { declared::slotplan_schedule(plan.as_ptr(), plan.len(), out.as_mut_ptr(), out.len()) })
+    told(unsafe {
+        declared::slotplan_schedule(plan.as_ptr(), plan.len(), out.as_mut_ptr(), out.len())
+    })
 }
 
 /// A flow as a host hands it in.
@@ -116,7 +123,14 @@ pub fn release(plan: &[u8], counters: &mut [u32], number: u8, out: &mut [u8]) ->
 }
 
 pub fn start(plan: &[u8], counters: &mut [u32]) -> Answer {
-    told(unsafe { declared::slotplan_start(plan.as_ptr(), plan.len(), counters.as_mut_ptr(), counters.len()) })
+    told(unsafe {
+        declared::slotplan_start(
+            plan.as_ptr(),
+            plan.len(),
+            counters.as_mut_ptr(),
+            counters.len(),
+        )
+    })
 }
 
 pub fn slot(plan: &[u8], counters: &mut [u32], arrivals: &[u16], number: u32) -> Answer {

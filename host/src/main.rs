@@ -29,7 +29,7 @@ use std::path::Path;
 use std::process::ExitCode;
 
 const USAGE: &str = "host expected [--write]\nhost random N SEED [--bin DIR]\nhost watch N SEED\n\
-    host repeat ROW SITE rattle|rust N";
+    host bench [growth]\nhost repeat ROW SITE rattle|rust N";
 
 fn random(count: &str, seed: &str, folder: &str) -> Option<u8> {
     let (count, seed) = (count.parse().ok()?, seed.parse().ok()?);
@@ -50,6 +50,8 @@ fn main() -> ExitCode {
         ["random", count, seed] => random(count, seed, "target/bin"),
         ["random", count, seed, "--bin", folder] => random(count, seed, folder),
         ["watch", count, seed] => watch(count, seed),
+        ["bench"] => Some(bench::bench()),
+        ["bench", "growth"] => Some(bench::bench_growth()),
         ["repeat", row, site, implementation, count] => {
             bench::repeat(row, site, implementation, count)
         }

@@ -15,7 +15,7 @@ use slot::Counters;
 /// The links and the flows.
 pub fn mark(plan: &[u8]) -> Result<(u64, u64), Refusal> {
     let site = FixedSite::read(plan)?;
-    Ok((site.links as u64, site.flow_count() as u64))
+    Ok((site.links as u64, site.flow_count as u64))
 }
 
 pub fn schedule(plan: &[u8], out: &mut [u8]) -> Answer {
@@ -57,7 +57,14 @@ pub fn admit(plan: &[u8], counters: &mut [u32], flow: NewFlow, out: &mut [u8]) -
     let at = command_place(&site, flow.number);
     let (before, after) = plan.split_at(at);
     let deadline = flow.deadline.to_le_bytes();
-    let command = [FLOW, flow.number, flow.entry, flow.rate, deadline[0], deadline[1]];
+    let command = [
+        FLOW,
+        flow.number,
+        flow.entry,
+        flow.rate,
+        deadline[0],
+        deadline[1],
+    ];
     out[..at].copy_from_slice(before);
     out[at..at + COMMAND_LENGTH].copy_from_slice(&command);
     out[at + COMMAND_LENGTH..].copy_from_slice(after);
@@ -77,7 +84,10 @@ fn check_admission(site: &FixedSite, flow: NewFlow) -> Result<(), Refusal> {
     if site.is_live(flow.number) {
         return refuse(15, number);
     }
-    if let Some(link) = site.route(flow.entry).find(|&link| !site.has_room(link, flow.rate)) {
+    if let Some(link) = site
+        .route(flow.entry)
+        .find(|&link| !site.has_room(link, flow.rate))
+    {
         return refuse(17, link);
     }
     if site.reaches[entry] > flow.deadline {
@@ -152,7 +162,9 @@ pub fn bound(plan: &[u8], number: u8) -> Answer {
     let site = site_of(plan)?;
     check_live(&site, number)?;
     let flow = site.flows()[site.flows_below(number)];
-    let periods = site.route(flow.entry).map(|link| u64::from(site.periods[link]));
+    let periods = site
+        .route(flow.entry)
+        .map(|link| u64::from(site.periods[link]));
     Ok(periods.sum())
 }
 

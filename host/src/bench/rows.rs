@@ -25,7 +25,12 @@ pub enum Row {
     Crowded,
 }
 
-/// The slots of a whole rehearsal.
+impl Row {
+    pub fn is_accepted(self) -> bool {
+        self != Row::Crowded
+    }
+}
+
 pub const REHEARSAL: Row = Row::Rehearsal(100_000);
 
 /// The rows that take a site.

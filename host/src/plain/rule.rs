@@ -2,9 +2,15 @@
 
 use crate::rules::MOST_LINKS;
 
-/// j of 01, slot rule 2.
-fn doublings(base: u16, gap: u16) -> u32 {
-    (gap / base).ilog2()
+/// j of 01, slot rule 2. It is small for most gaps, so that this takes less time than a division.
+fn doublings(base: u16, gap: u16) -> u16 {
+    let mut doublings = 0;
+    let mut period = base;
+    while period <= gap / 2 {
+        period *= 2;
+        doublings += 1;
+    }
+    doublings
 }
 
 /// 01, slot rule 3, both sides multiplied so that 10, the largest j of any gap, stands in the place of J.
@@ -50,7 +56,7 @@ pub fn deal(gaps: &[u16], offsets: &mut [u16], periods: &mut [u16]) -> Option<u1
     for (child, &gap) in gaps.iter().enumerate() {
         let doublings = doublings(base, gap);
         periods[child] = base << doublings;
-        order[child] = (doublings << 6) as u16 | child as u16;
+        order[child] = doublings << 6 | child as u16;
     }
     order.sort_unstable();
     let mut turns = [Turn::default(); MOST_LINKS];

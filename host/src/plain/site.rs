@@ -32,6 +32,7 @@ pub struct FixedSite {
     begins: [u8; NODES + 1],
     /// The live numbers, as bits.
     live: u64,
+    pub flow_count: usize,
     flows: [FixedFlow; FLOW_NUMBERS],
 }
 
@@ -49,6 +50,7 @@ impl FixedSite {
         children: [0; MOST_LINKS],
         begins: [0; NODES + 1],
         live: 0,
+        flow_count: 0,
         flows: [FixedFlow {
             number: 0,
             entry: 0,
@@ -61,22 +63,24 @@ impl FixedSite {
         let late = site.read_commands(plan)?;
         site.deal_all()?;
         site.check_widths()?;
-        match late {
-            Some(number) => refuse(13, usize::from(number)),
-            None => Ok(site),
+        if late < FLOW_NUMBERS {
+            return refuse(13, late);
         }
+        Ok(site)
     }
 
-    /// For each command 3, 2, 4, 7, 5, 6, 8, for END 9 and 10. Gives the lowest flow that 13 refuses: numbers rise, so it is the first.
-    fn read_commands(&mut self, plan: &[u8]) -> Result<Option<u8>, Refusal> {
-        let mut late = None;
+    /// For each command 3, 2, 4, 7, 5, 6, 8, for END 9 and 10. Gives the lowest flow that 13 refuses, or 64.
+    fn read_commands(&mut self, plan: &[u8]) -> Result<usize, Refusal> {
+        let mut late = FLOW_NUMBERS;
         for (count, bytes) in plan.chunks(COMMAND_LENGTH).enumerate() {
             let at = count * COMMAND_LENGTH;
             let read = match (bytes[0], bytes) {
                 (END, _) => return self.check_end(plan, at).map(|()| late),
-                (NODE, &[_, parent, a, b, c, d]) => {
-                    self.add_node(parent, u16::from_le_bytes([a, b]), u16::from_le_bytes([c, d]))
-                }
+                (NODE, &[_, parent, a, b, c, d]) => self.add_node(
+                    parent,
+                    u16::from_le_bytes([a, b]),
+                    u16::from_le_bytes([c, d]),
+                ),
                 (FLOW, &[_, number, entry, rate, a, b]) => {
                     let flow = FixedFlow {
                         number,
@@ -123,12 +127,7 @@ impl FixedSite {
     }
 
     /// Checks 5 and 6; whether 13 refuses the flow is noted.
-    fn add_flow(
-        &mut self,
-        flow: FixedFlow,
-        deadline: u16,
-        late: &mut Option<u8>,
-    ) -> Result<(), u64> {
+    fn add_flow(&mut self, flow: FixedFlow, deadline: u16, late: &mut usize) -> Result<(), u64> {
         let entry = usize::from(flow.entry);
         if usize::from(flow.number) >= FLOW_NUMBERS || flow.rate == 0 || deadline == 0 {
             return Err(5);
@@ -136,11 +135,12 @@ impl FixedSite {
         if entry == 0 || entry > self.links || self.live >> flow.number != 0 {
             return Err(6);
         }
-        self.flows[self.flow_count()] = flow;
+        self.flows[self.flow_count] = flow;
+        self.flow_count += 1;
         self.live |= 1 << flow.number;
         self.rates[entry] += u16::from(flow.rate);
-        if self.reaches[entry] > deadline && late.is_none() {
-            *late = Some(flow.number);
+        if self.reaches[entry] > deadline {
+            *late = usize::from(flow.number).min(*late);
         }
         Ok(())
     }
@@ -224,13 +224,9 @@ impl FixedSite {
         rates * u32::from(self.gaps[link]) <= u32::from(self.capacities[link])
     }
 
-    pub fn flow_count(&self) -> usize {
-        self.live.count_ones() as usize
-    }
-
     /// By rising number.
     pub fn flows(&self) -> &[FixedFlow] {
-        &self.flows[..self.flow_count()]
+        &self.flows[..self.flow_count]
     }
 
     pub fn is_live(&self, number: u8) -> bool {

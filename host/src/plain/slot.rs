@@ -46,12 +46,7 @@ pub fn pass(site: &FixedSite, counters: &mut Counters, arrivals: &Arrivals, slot
 
 /// `sending` has the gap of each link that sends, and 0 for the others, so that a width is the rate times this.
 /// Going up, what the link below moved joins a queue only after that queue's own link was judged.
-fn advance(
-    site: &FixedSite,
-    flow: FixedFlow,
-    cells: &mut [u32],
-    sending: &[u32; MOST_LINKS + 1],
-) {
+fn advance(site: &FixedSite, flow: FixedFlow, cells: &mut [u32], sending: &[u32; MOST_LINKS + 1]) {
     let mut joining = 0;
     for (cell, link) in cells.iter_mut().zip(site.route(flow.entry)) {
         let moved = (*cell).min(u32::from(flow.rate) * sending[link]);
