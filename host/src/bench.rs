@@ -28,7 +28,7 @@ fn heading() -> String {
         "Processor: {}\n\
         Rattle: the compiled library, {}\n\
         Rust: `plain`, standard library only, no unsafe, bounds checks; opt-level 3, one codegen unit, link-time optimization\n\
-        Each time is the median of 401 batches of at least 50 µs, of 5 for more than 1,000 slots in one; batches of the two alternate.\n\
+        Each time is the median of 401 batches of at least 50 µs, of 5 for a rehearsal of more than 1,000 slots; those of the two alternate.\n\
         Buffers are made before the clock starts and are not cleared between calls; the counters are 0 before each rehearsal.\n",
         processor(),
         env!("SLOTPLAN_ARCHIVE")
@@ -47,40 +47,32 @@ fn share_of_check_14(mark: Times, slot: Times) -> [String; 3] {
     [rattle, percent(mark.rust, slot.rust), String::new()]
 }
 
-/// The lines of a site: each row's name with its three cells, and check 14's share below `mark`.
-fn site_lines(case: &Case) -> Result<Vec<(String, [String; 3])>, String> {
-    let mut lines = Vec::new();
-    let [mut mark, mut slot] = [None; 2];
-    for (name, row) in OF_SITES {
-        let times = measure(row, case)?;
-        match row {
-            Row::Mark => mark = Some(times),
-            Row::Slot => slot = Some(times),
-            _ => {}
-        }
-        lines.push((name.to_string(), cells(times)));
-    }
-    if let (Some(mark), Some(slot)) = (mark, slot) {
-        let share = share_of_check_14(mark, slot);
-        lines.insert(1, ("check 14's share of a slot".to_string(), share));
-    }
+/// The lines of a site, each with its name and three cells, and check 14's share below `mark`.
+fn site_lines(case: &Case) -> Result<Vec<(&'static str, [String; 3])>, String> {
+    let times = measure(&OF_SITES.map(|(_, row)| (row, case)))?;
+    let of_row = |row: Row| {
+        let index = OF_SITES.iter().position(|&(_, other)| other == row);
+        times[index.expect("a row of the table")]
+    };
+    let share = share_of_check_14(of_row(Row::Mark), of_row(Row::Slot));
+    let names = OF_SITES.iter().map(|&(name, _)| name);
+    let mut lines: Vec<_> = names.zip(times.iter().copied().map(cells)).collect();
+    lines.insert(1, ("check 14's share of a slot", share));
     Ok(lines)
 }
 
 fn sites_table() -> Result<String, String> {
     let mut heading = vec![String::new()];
-    let mut columns = Vec::new();
+    let mut sites = Vec::new();
     for name in NAMES {
         let case = sites::case(name).ok_or("no such site")?;
-        columns.push(site_lines(&case)?);
+        sites.push(site_lines(&case)?);
         heading.extend([format!("{name}: Rattle"), "Rust".into(), "ratio".into()]);
     }
     let mut rows = vec![heading];
-    for index in 0..columns[0].len() {
-        let mut row = vec![columns[0][index].0.clone()];
-        for lines in &columns {
-            row.extend(lines[index].1.clone());
-        }
+    for index in 0..sites[0].len() {
+        let mut row = vec![sites[0][index].0.to_string()];
+        row.extend(sites.iter().flat_map(|lines| lines[index].1.clone()));
         rows.push(row);
     }
     Ok(table(&rows))
@@ -88,13 +80,13 @@ fn sites_table() -> Result<String, String> {
 
 fn lists_table() -> Result<String, String> {
     let case = sites::case("small").ok_or("no such site")?;
-    let mut rows = vec![["slot rule", "Rattle", "Rust", "ratio"]
-        .map(String::from)
-        .to_vec()];
-    for (name, row) in OF_LISTS {
-        let mut cells = cells(measure(row, &case)?).to_vec();
-        cells.insert(0, name.to_string());
-        rows.push(cells);
+    let times = measure(&OF_LISTS.map(|(_, row)| (row, &case)))?;
+    let heading = ["slot rule", "Rattle", "Rust", "ratio"];
+    let mut rows = vec![heading.map(String::from).to_vec()];
+    for ((name, _), times) in OF_LISTS.into_iter().zip(times) {
+        let mut row = vec![name.to_string()];
+        row.extend(cells(times));
+        rows.push(row);
     }
     Ok(table(&rows))
 }

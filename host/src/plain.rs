@@ -1,9 +1,13 @@
 //! The functions of `include/slotplan.h` in plain Rust, for comparison with the compiled library in time: the plan bytes are read
 //! into fixed arrays and judged once, then the call runs on these arrays and writes the new bytes straight into the lent buffer.
 
+#[cfg(test)]
+mod independent;
 mod rule;
 mod site;
 mod slot;
+#[cfg(test)]
+mod tests;
 
 use crate::bytes::{COMMAND_LENGTH, END, FLOW, LINK};
 use crate::calls::{CELLS, COUNTERS};

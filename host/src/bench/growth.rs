@@ -8,7 +8,7 @@ use crate::bytes::{node_command, COMMAND_LENGTH, END};
 use crate::rules::{FLOW_NUMBERS, MOST_LINKS};
 
 const LINKS: [usize; 7] = [1, 2, 4, 8, 16, 32, MOST_LINKS];
-const FLOWS: [usize; 7] = [1, 2, 4, 8, 16, 32, FLOW_NUMBERS];
+const FLOWS: [usize; 8] = [0, 1, 2, 4, 8, 16, 32, FLOW_NUMBERS];
 const SLOTS: [u32; 7] = [1000, 2000, 5000, 10_000, 20_000, 50_000, 100_000];
 
 /// The nodes in their order, so many under each parent, all with the same wide gap.
@@ -44,15 +44,13 @@ fn with_unit(times: Times, unit: Times) -> [String; 4] {
 }
 
 fn against_links(under_each: usize) -> Result<String, String> {
+    let cases = LINKS.map(|links| Case::of_plan(plan_of_links(links, under_each)));
+    let times = measure(&cases.each_ref().map(|case| (Row::Mark, case)))?;
     let columns = ["links", "pairs", "Rattle", "a link", "Rust", "a link"];
     let mut rows = vec![titles(columns)];
-    for links in LINKS {
-        let case = Case::of_plan(plan_of_links(links, under_each));
-        let times = measure(Row::Mark, &case)?;
-        let mut row = vec![
-            links.to_string(),
-            pairs_of_children(links, under_each).to_string(),
-        ];
+    for (links, times) in LINKS.into_iter().zip(times) {
+        let pairs = pairs_of_children(links, under_each);
+        let mut row = vec![links.to_string(), pairs.to_string()];
         row.extend(with_unit(times, times.map(|time| time / links as f64)));
         rows.push(row);
     }
@@ -61,17 +59,15 @@ fn against_links(under_each: usize) -> Result<String, String> {
 
 /// The unit is what a flow adds to the time without any.
 fn against_flows(call: Row) -> Result<String, String> {
-    let of_flows = |flows| measure(call, &Case::of_plan(plan_of_flows(flows)));
-    let none = of_flows(0)?;
+    let cases = FLOWS.map(|flows| Case::of_plan(plan_of_flows(flows)));
+    let times = measure(&cases.each_ref().map(|case| (call, case)))?;
+    let none = times[0];
     let columns = ["flows", "Rattle", "added by one", "Rust", "added by one"];
     let mut rows = vec![titles(columns)];
-    let without = [none.rattle, none.rust].map(shown_time);
-    rows.push(titles(["0", &without[0], "", &without[1], ""]));
-    for flows in FLOWS {
-        let times = of_flows(flows)?;
+    for (flows, times) in FLOWS.into_iter().zip(times) {
         let added = Times {
-            rattle: (times.rattle - none.rattle) / flows as f64,
-            rust: (times.rust - none.rust) / flows as f64,
+            rattle: (times.rattle - none.rattle) / flows.max(1) as f64,
+            rust: (times.rust - none.rust) / flows.max(1) as f64,
         };
         let mut row = vec![flows.to_string()];
         row.extend(with_unit(times, added));
@@ -82,10 +78,10 @@ fn against_flows(call: Row) -> Result<String, String> {
 
 fn against_slots() -> Result<String, String> {
     let case = Case::of_plan(largest_plan());
+    let times = measure(&SLOTS.map(|slots| (Row::Rehearsal(slots), &case)))?;
     let columns = ["slots", "Rattle", "a slot", "Rust", "a slot"];
     let mut rows = vec![titles(columns)];
-    for slots in SLOTS {
-        let times = measure(Row::Rehearsal(slots), &case)?;
+    for (slots, times) in SLOTS.into_iter().zip(times) {
         let mut row = vec![slots.to_string()];
         row.extend(with_unit(times, times.map(|time| time / f64::from(slots))));
         rows.push(row);

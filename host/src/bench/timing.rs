@@ -28,10 +28,47 @@ impl Times {
     }
 }
 
-fn batches_of(row: Row) -> usize {
+const ROUNDS: usize = 401;
+
+/// How many rounds go by from one batch of the row to its next: a long rehearsal has 5 batches, all else one in each round.
+fn rounds_between(row: Row) -> usize {
     match row {
-        Row::Rehearsal(slots) if slots > 1000 => 5,
-        _ => 401,
+        Row::Rehearsal(slots) if slots > 1000 => ROUNDS / 4,
+        _ => 1,
+    }
+}
+
+/// One row on one site, with the times of all batches, Rattle's first.
+struct Track<'a> {
+    row: Row,
+    pair: [Bench<'a>; 2],
+    runs: u32,
+    times: [Vec<Duration>; 2],
+}
+
+impl Track<'_> {
+    fn new(row: Row, case: &Case) -> Result<Track<'_>, String> {
+        let mut pair = [Bench::new(&RATTLE, case), Bench::new(&RUST, case)];
+        check_agreement(&mut pair, row)?;
+        let runs = runs_in_a_batch(&mut pair, row);
+        Ok(Track {
+            row,
+            pair,
+            runs,
+            times: [Vec::new(), Vec::new()],
+        })
+    }
+
+    fn add_batch_of_each(&mut self) {
+        for (bench, times) in self.pair.iter_mut().zip(&mut self.times) {
+            times.push(time(bench, self.row, self.runs));
+        }
+    }
+
+    fn medians(self) -> Times {
+        let runs = f64::from(self.runs);
+        let [rattle, rust] = self.times.map(|mut times| median(&mut times) / runs);
+        Times { rattle, rust }
     }
 }
 
@@ -50,23 +87,23 @@ fn check_agreement(pair: &mut [Bench; 2], row: Row) -> Result<(), String> {
     Ok(())
 }
 
-fn time(bench: &mut Bench, row: Row, count: u32) -> Duration {
+fn time(bench: &mut Bench, row: Row, runs: u32) -> Duration {
     bench.prepare(row);
     let start = Instant::now();
-    let _ = bench.run(row, count);
+    let _ = bench.run(row, runs);
     start.elapsed()
 }
 
 /// So many runs that a batch of either is long enough.
 fn runs_in_a_batch(pair: &mut [Bench; 2], row: Row) -> u32 {
-    let mut count = 1;
+    let mut runs = 1;
     while pair
         .iter_mut()
-        .any(|bench| time(bench, row, count) < SHORTEST_BATCH)
+        .any(|bench| time(bench, row, runs) < SHORTEST_BATCH)
     {
-        count *= 2;
+        runs *= 2;
     }
-    count
+    runs
 }
 
 fn median(times: &mut [Duration]) -> f64 {
@@ -74,16 +111,16 @@ fn median(times: &mut [Duration]) -> f64 {
     times[times.len() / 2].as_nanos() as f64
 }
 
-pub fn measure(row: Row, case: &Case) -> Result<Times, String> {
-    let mut pair = [Bench::new(&RATTLE, case), Bench::new(&RUST, case)];
-    check_agreement(&mut pair, row)?;
-    let count = runs_in_a_batch(&mut pair, row);
-    let mut times = [Vec::new(), Vec::new()];
-    for _ in 0..batches_of(row) {
-        for (bench, times) in pair.iter_mut().zip(&mut times) {
-            times.push(time(bench, row, count));
+/// Each row on its site. In every round each has a batch of either implementation, so that a change of the machine's speed meets all alike.
+pub fn measure(rows: &[(Row, &Case)]) -> Result<Vec<Times>, String> {
+    let tracks = rows.iter().map(|&(row, case)| Track::new(row, case));
+    let mut tracks = tracks.collect::<Result<Vec<_>, _>>()?;
+    for round in 0..ROUNDS {
+        for track in &mut tracks {
+            if round % rounds_between(track.row) == 0 {
+                track.add_batch_of_each();
+            }
         }
     }
-    let [rattle, rust] = times.map(|mut times| median(&mut times) / f64::from(count));
-    Ok(Times { rattle, rust })
+    Ok(tracks.into_iter().map(Track::medians).collect())
 }
