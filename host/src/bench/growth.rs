@@ -1,11 +1,11 @@
 //! Time against the number of links, flows and slots.
 
-use super::rows::Row;
+use super::rows::{full_gaps, Row};
 use super::sites::{largest_plan, plan_of, Case};
 use super::table::{shown_time, table};
 use super::timing::{measure, Times};
 use crate::bytes::{node_command, COMMAND_LENGTH, END};
-use crate::rules::{FLOW_NUMBERS, MOST_LINKS};
+use crate::rules::{deal, FLOW_NUMBERS, MOST_LINKS};
 
 const LINKS: [usize; 7] = [1, 2, 4, 8, 16, 32, MOST_LINKS];
 const FLOWS: [usize; 8] = [0, 1, 2, 4, 8, 16, 32, FLOW_NUMBERS];
@@ -19,11 +19,32 @@ fn plan_of_links(links: usize, under_each: usize) -> Vec<u8> {
     plan_of(&nodes, &[])
 }
 
-/// How many pairs of links have the same parent.
-fn pairs_of_children(links: usize, under_each: usize) -> usize {
-    let (full, rest) = (links / under_each, links % under_each);
-    let pairs = |children: usize| children * children.saturating_sub(1) / 2;
-    full * pairs(under_each) + pairs(rest)
+/// How often the slot rule, dealing these gaps, asks whether an earlier child sends at an offset.
+fn collision_tests(gaps: &[u64]) -> usize {
+    let Some(deal) = deal(gaps) else {
+        return 0;
+    };
+    let mut order: Vec<usize> = (0..gaps.len()).collect();
+    order.sort_by_key(|&child| (deal.periods[child], child));
+    let (mut tests, mut from) = (0, 0);
+    for (count, &child) in order.iter().enumerate() {
+        for offset in from..=deal.offsets[child] {
+            let mut earlier = order[..count].iter();
+            let taken =
+                earlier.position(|&other| offset % deal.periods[other] == deal.offsets[other]);
+            tests += taken.map_or(count, |place| place + 1);
+        }
+        from = deal.offsets[child] + 1;
+    }
+    tests
+}
+
+/// The same for all parents of so many links with this many under each.
+fn tests_of_links(links: usize, under_each: usize) -> usize {
+    let lists = (0..links).step_by(under_each);
+    lists
+        .map(|first| collision_tests(&vec![1024; under_each.min(links - first)]))
+        .sum()
 }
 
 /// The largest site with the first of its flows.
@@ -46,12 +67,31 @@ fn with_unit(times: Times, unit: Times) -> [String; 4] {
 fn against_links(under_each: usize) -> Result<String, String> {
     let cases = LINKS.map(|links| Case::of_plan(plan_of_links(links, under_each)));
     let times = measure(&cases.each_ref().map(|case| (Row::Mark, case)))?;
-    let columns = ["links", "pairs", "Rattle", "a link", "Rust", "a link"];
+    let columns = ["links", "tests", "Rattle", "a link", "Rust", "a link"];
     let mut rows = vec![titles(columns)];
     for (links, times) in LINKS.into_iter().zip(times) {
-        let pairs = pairs_of_children(links, under_each);
-        let mut row = vec![links.to_string(), pairs.to_string()];
+        let tests = tests_of_links(links, under_each);
+        let mut row = vec![links.to_string(), tests.to_string()];
         row.extend(with_unit(times, times.map(|time| time / links as f64)));
+        rows.push(row);
+    }
+    Ok(table(&rows))
+}
+
+/// Lists of 1,024 alone, and last the list that takes most tests.
+fn against_tests(case: &Case) -> Result<String, String> {
+    let mut lists: Vec<_> = LINKS[1..]
+        .iter()
+        .map(|&children| (Row::Wide(children), vec![1024; children]))
+        .collect();
+    lists.push((Row::Full, full_gaps().map(u64::from).to_vec()));
+    let times = measure(&lists.iter().map(|list| (list.0, case)).collect::<Vec<_>>())?;
+    let columns = ["children", "tests", "Rattle", "a test", "Rust", "a test"];
+    let mut rows = vec![titles(columns)];
+    for ((_, gaps), times) in lists.iter().zip(times) {
+        let tests = collision_tests(gaps);
+        let mut row = vec![gaps.len().to_string(), tests.to_string()];
+        row.extend(with_unit(times, times.map(|time| time / tests as f64)));
         rows.push(row);
     }
     Ok(table(&rows))
@@ -63,11 +103,13 @@ fn against_flows(call: Row) -> Result<String, String> {
     let times = measure(&cases.each_ref().map(|case| (call, case)))?;
     let none = times[0];
     let columns = ["flows", "Rattle", "added by one", "Rust", "added by one"];
-    let mut rows = vec![titles(columns)];
-    for (flows, times) in FLOWS.into_iter().zip(times) {
+    let without = [none.rattle, none.rust].map(shown_time);
+    let first = titles(["0", &without[0], "", &without[1], ""]);
+    let mut rows = vec![titles(columns), first];
+    for (&flows, &times) in FLOWS.iter().zip(&times).skip(1) {
         let added = Times {
-            rattle: (times.rattle - none.rattle) / flows.max(1) as f64,
-            rust: (times.rust - none.rust) / flows.max(1) as f64,
+            rattle: (times.rattle - none.rattle) / flows as f64,
+            rust: (times.rust - none.rust) / flows as f64,
         };
         let mut row = vec![flows.to_string()];
         row.extend(with_unit(times, added));
@@ -76,9 +118,8 @@ fn against_flows(call: Row) -> Result<String, String> {
     Ok(table(&rows))
 }
 
-fn against_slots() -> Result<String, String> {
-    let case = Case::of_plan(largest_plan());
-    let times = measure(&SLOTS.map(|slots| (Row::Rehearsal(slots), &case)))?;
+fn against_slots(case: &Case) -> Result<String, String> {
+    let times = measure(&SLOTS.map(|slots| (Row::Rehearsal(slots), case)))?;
     let columns = ["slots", "Rattle", "a slot", "Rust", "a slot"];
     let mut rows = vec![titles(columns)];
     for (slots, times) in SLOTS.into_iter().zip(times) {
@@ -90,20 +131,37 @@ fn against_slots() -> Result<String, String> {
 }
 
 pub fn report() -> Result<String, String> {
-    Ok(format!(
-        "`mark` against the links, no flows, gaps of 1,024, at most 8 children under each parent. \
-        By rule 5 of 01 a child looks for an offset at which no earlier child of its parent sends: \
-        each pair of children is compared at least once.\n\n{}\n\
-        The same with all links under the root.\n\n{}\n\
-        `mark` against the flows, on the links of the largest site.\n\n{}\n\
-        `slot` against the flows.\n\n{}\n\
-        A rehearsal on the largest site against its slots.\n\n{}",
-        against_links(8)?,
-        against_links(MOST_LINKS)?,
-        against_flows(Row::Mark)?,
-        against_flows(Row::Slot)?,
-        against_slots()?
-    ))
+    let largest = Case::of_plan(largest_plan());
+    let parts = [
+        (
+            "`mark` against the links, at most 8 under each parent, gaps of 1,024, no flows. A test is a question of rule 5 of 01: \
+            does an earlier child of the parent send at this offset? Links of different parents are not compared.",
+            against_links(8)?,
+        ),
+        (
+            "`mark` against the links, all under the root. Asked child by child, as the rule is written, \
+            n children take at least n (n - 1) / 2 tests.",
+            against_links(MOST_LINKS)?,
+        ),
+        (
+            "The slot rule alone on gaps of 1,024, and at the end on the list with the most tests.",
+            against_tests(&largest)?,
+        ),
+        (
+            "`mark` against the flows, on the links of the largest site.",
+            against_flows(Row::Mark)?,
+        ),
+        (
+            "`slot` against the flows, on the links of the largest site.",
+            against_flows(Row::Slot)?,
+        ),
+        (
+            "A rehearsal on the largest site against its slots.",
+            against_slots(&largest)?,
+        ),
+    ];
+    let parts = parts.map(|(title, table)| format!("{title}\n\n{table}"));
+    Ok(parts.join("\n"))
 }
 
 #[cfg(test)]
@@ -112,15 +170,18 @@ mod tests {
     use crate::bytes::read_plan;
 
     #[test]
-    fn pairs_are_those_of_the_plans() {
-        for (links, under_each) in [(1, 8), (9, 8), (63, 8), (63, 63)] {
-            let site = read_plan(&plan_of_links(links, under_each)).unwrap();
-            let children = (0..=links).map(|parent| site.children(parent).len());
-            let pairs: usize = children
-                .map(|count| count * count.max(1) / 2 - count / 2)
-                .sum();
-            assert_eq!(pairs_of_children(links, under_each), pairs);
+    fn children_of_equal_gaps_are_compared_pair_by_pair() {
+        for children in 1..=MOST_LINKS {
+            let tests = collision_tests(&vec![1024; children]);
+            assert_eq!(tests, children * (children - 1) / 2);
         }
+        assert_eq!(tests_of_links(63, 8), 7 * 28 + 21);
+    }
+
+    /// The number that docs/CHECK-TIMES.md has for this list.
+    #[test]
+    fn the_full_list_takes_28272_tests() {
+        assert_eq!(collision_tests(&full_gaps().map(u64::from)), 28_272);
     }
 
     #[test]

@@ -19,6 +19,8 @@ pub enum Row {
     Bound,
     /// So many slots after a start.
     Rehearsal(u32),
+    /// The slot rule on so many gaps of 1,024.
+    Wide(usize),
     /// The slot rule on the list with the most collision tests.
     Full,
     /// The slot rule on a list that no base fits.
@@ -55,7 +57,7 @@ pub fn row(name: &str) -> Option<Row> {
 }
 
 /// All slots are taken in the end, and the last offset is 943.
-fn full_gaps() -> [u16; MOST_LINKS] {
+pub fn full_gaps() -> [u16; MOST_LINKS] {
     let mut gaps = [59; MOST_LINKS];
     gaps[58..].copy_from_slice(&[118, 236, 472, 944, 944]);
     gaps
@@ -140,6 +142,7 @@ impl Bench<'_> {
             Row::Rehearsal(slots) => self.slots(slots * count),
             Row::Sender => self.senders(count),
             Row::Bound => repeat(count, || (functions.bound)(plan(), black_box(last.number))),
+            Row::Wide(children) => self.deals(&[1024; MOST_LINKS][..children], count),
             Row::Full => self.deals(&full_gaps(), count),
             Row::Crowded => self.deals(&CROWDED_GAPS, count),
         }
@@ -177,6 +180,7 @@ impl Bench<'_> {
         let Buffers {
             offsets, periods, ..
         } = &mut *self.buffers;
+        let (offsets, periods) = (&mut offsets[..gaps.len()], &mut periods[..gaps.len()]);
         repeat(count, || deal(black_box(gaps), offsets, periods))
     }
 
