@@ -8,7 +8,7 @@ mod timing;
 
 use crate::functions::{Functions, RATTLE, RUST};
 use rows::{Bench, Row, OF_LISTS, OF_SITES};
-use sites::{Case, NAMES};
+use sites::Case;
 use std::fs;
 use table::{shown_time, table};
 use timing::{measure, Times};
@@ -29,6 +29,7 @@ fn heading() -> String {
         Rattle: the compiled library, {}\n\
         Rust: `plain`, standard library only, no unsafe, bounds checks; opt-level 3, one codegen unit, link-time optimization\n\
         Each time is the median of 401 batches of at least 50 µs, of 5 for a rehearsal of more than 1,000 slots; those of the two alternate.\n\
+        Sites: small with 3 links and 1 flow, typical with 16 and 12, largest with 63 and 64\n\
         Buffers are made before the clock starts and are not cleared between calls; the counters are 0 before each rehearsal.\n",
         processor(),
         env!("SLOTPLAN_ARCHIVE")
@@ -64,9 +65,8 @@ fn site_lines(case: &Case) -> Result<Vec<(&'static str, [String; 3])>, String> {
 fn sites_table() -> Result<String, String> {
     let mut heading = vec![String::new()];
     let mut sites = Vec::new();
-    for name in NAMES {
-        let case = sites::case(name).ok_or("no such site")?;
-        sites.push(site_lines(&case)?);
+    for (name, plan) in sites::plans() {
+        sites.push(site_lines(&Case::of_plan(plan))?);
         heading.extend([format!("{name}: Rattle"), "Rust".into(), "ratio".into()]);
     }
     let mut rows = vec![heading];
@@ -79,7 +79,7 @@ fn sites_table() -> Result<String, String> {
 }
 
 fn lists_table() -> Result<String, String> {
-    let case = sites::case("small").ok_or("no such site")?;
+    let case = Case::of_plan(sites::largest_plan());
     let times = measure(&OF_LISTS.map(|(_, row)| (row, &case)))?;
     let heading = ["slot rule", "Rattle", "Rust", "ratio"];
     let mut rows = vec![heading.map(String::from).to_vec()];

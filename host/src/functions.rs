@@ -4,8 +4,11 @@ use crate::library::{self, Answer, NewFlow};
 use crate::plain;
 use crate::rules::Refusal;
 
+/// The links and the flows, or a refusal.
+type Marked = Result<(u64, u64), Refusal>;
+
 pub struct Functions {
-    pub mark: fn(&[u8]) -> Result<(u64, u64), Refusal>,
+    pub mark: fn(&[u8]) -> Marked,
     pub schedule: fn(&[u8], &mut [u8]) -> Answer,
     pub admit: fn(&[u8], &mut [u32], NewFlow, &mut [u8]) -> Answer,
     pub release: fn(&[u8], &mut [u32], u8, &mut [u8]) -> Answer,

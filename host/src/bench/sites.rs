@@ -39,16 +39,18 @@ impl Case {
     }
 }
 
-pub const NAMES: [&str; 3] = ["small", "typical", "largest"];
+/// The plans by name.
+pub fn plans() -> [(&'static str, Vec<u8>); 3] {
+    [
+        ("small", plan_p()),
+        ("typical", typical_plan()),
+        ("largest", largest_plan()),
+    ]
+}
 
 pub fn case(name: &str) -> Option<Case> {
-    let plan = match name {
-        "small" => plan_p(),
-        "typical" => typical_plan(),
-        "largest" => largest_plan(),
-        _ => return None,
-    };
-    Some(Case::of_plan(plan))
+    let plan = plans().into_iter().find(|plan| plan.0 == name)?;
+    Some(Case::of_plan(plan.1))
 }
 
 /// Plan P of 01.
@@ -99,8 +101,8 @@ mod tests {
     #[test]
     fn the_sites_are_as_large_as_their_names_say() {
         assert_eq!(plan_p(), bytes::plan_p(9, 7));
-        let sizes = NAMES.map(|name| {
-            let site = read_plan(&case(name).unwrap().plan).unwrap();
+        let sizes = plans().map(|(_, plan)| {
+            let site = read_plan(&plan).unwrap();
             (site.links, site.live_flows().len())
         });
         assert_eq!(sizes, [(3, 1), (16, 12), (63, 64)]);

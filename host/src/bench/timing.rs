@@ -72,12 +72,16 @@ impl Track<'_> {
     }
 }
 
-/// A run of each before anything is timed: the answers and all that is left in the buffers have to be the same.
+/// Before anything is timed: the answers and all that is left in the buffers have to be the same.
 fn check_agreement(pair: &mut [Bench; 2], row: Row) -> Result<(), String> {
+    let runs = match row {
+        Row::Rehearsal(_) => 1,
+        _ => 100,
+    };
     let [rattle, rust] = pair;
     rattle.prepare(row);
     rust.prepare(row);
-    let answers = [rattle.run(row, 3), rust.run(row, 3)];
+    let answers = [rattle.run(row, runs), rust.run(row, runs)];
     if answers[0] != answers[1] || !rattle.left_the_same(rust) {
         return Err(format!("{row:?}: the two differ, {answers:?}"));
     }
@@ -97,13 +101,13 @@ fn time(bench: &mut Bench, row: Row, runs: u32) -> Duration {
 /// So many runs that a batch of either is long enough.
 fn runs_in_a_batch(pair: &mut [Bench; 2], row: Row) -> u32 {
     let mut runs = 1;
-    while pair
-        .iter_mut()
-        .any(|bench| time(bench, row, runs) < SHORTEST_BATCH)
-    {
+    loop {
+        let times = pair.each_mut().map(|bench| time(bench, row, runs));
+        if times.iter().all(|&time| time >= SHORTEST_BATCH) {
+            return runs;
+        }
         runs *= 2;
     }
-    runs
 }
 
 fn median(times: &mut [Duration]) -> f64 {

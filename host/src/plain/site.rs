@@ -7,7 +7,7 @@ use crate::rules::{refuse, Refusal, FLOW_NUMBERS, MOST_DEPTH, MOST_LINKS};
 /// The root has number 0, so that a node's number is its index.
 const NODES: usize = MOST_LINKS + 1;
 
-#[derive(Clone, Copy, Default)]
+#[derive(Clone, Copy)]
 pub struct FixedFlow {
     pub number: u8,
     pub entry: u8,
@@ -16,8 +16,8 @@ pub struct FixedFlow {
 
 pub struct FixedSite {
     pub links: usize,
-    pub parents: [u8; NODES],
-    pub capacities: [u16; NODES],
+    parents: [u8; NODES],
+    capacities: [u16; NODES],
     pub gaps: [u16; NODES],
     pub offsets: [u16; NODES],
     pub periods: [u16; NODES],
@@ -25,7 +25,7 @@ pub struct FixedSite {
     /// The gaps from the node up to the root, summed.
     pub reaches: [u16; NODES],
     /// The rates of the flows with this link on their route, summed. Their widths sum to this times the gap.
-    pub rates: [u16; NODES],
+    rates: [u16; NODES],
     /// The nodes by rising parent, those of one parent by rising number.
     children: [u8; MOST_LINKS],
     /// Where the children of each parent begin in that list; they end where the next parent's begin.
@@ -160,7 +160,7 @@ impl FixedSite {
         for node in 1..=self.links {
             self.begins[usize::from(self.parents[node]) + 1] += 1;
         }
-        for parent in 0..NODES {
+        for parent in 0..=self.links {
             self.begins[parent + 1] += self.begins[parent];
         }
         let mut next = self.begins;

@@ -103,12 +103,8 @@ fn run(functions: &Functions, plan: &[u8], call: &Call, lent: &mut Lent, room: u
     let (counters, out) = (&mut lent.counters, &mut lent.out[..room]);
     match call {
         Call::Admission { lent, flow } => {
-            let flow = NewFlow {
-                number: flow.number as u8,
-                entry: flow.entry as u8,
-                rate: flow.rate as u8,
-                deadline: flow.deadline as u16,
-            };
+            let (number, entry) = (flow.number as u8, flow.entry as u8);
+            let flow = self::flow(number, entry, flow.rate as u8, flow.deadline as u16);
             (functions.admit)(plan, &mut counters[..*lent], flow, out)
         }
         Call::Release { lent, number } => {
@@ -223,27 +219,30 @@ fn gap_lists_are_dealt_alike() {
     numbers.all_reach(200, [0, 1, 5, 11]);
 }
 
-/// The checks of a call on P in their order, from one line to the next the first failing one mended.
+fn flow(number: u8, entry: u8, rate: u8, deadline: u16) -> NewFlow {
+    NewFlow {
+        number,
+        entry,
+        rate,
+        deadline,
+    }
+}
+
+/// From one line to the next the first failing check is mended; the room for the new bytes is judged last.
 #[test]
 fn checks_of_an_admission_come_in_order() {
     let (good, bad) = (plan_p(9, 7), plan_p(9, 6));
-    let lines: [(&[u8], usize, [u8; 3], u16, usize, u64); 8] = [
-        (&bad, 575, [0, 4, 0], 5, 0, 1),
-        (&bad, 576, [0, 4, 0], 5, 0, 14),
-        (&good, 576, [0, 4, 0], 5, 0, 5),
-        (&good, 576, [0, 4, 4], 5, 0, 6),
-        (&good, 576, [0, 2, 4], 5, 0, 15),
-        (&good, 576, [5, 2, 4], 5, 0, 17),
-        (&good, 576, [5, 2, 3], 5, 0, 18),
-        (&good, 576, [5, 2, 3], 6, 30, 1),
+    let lines = [
+        (&bad, 575, flow(0, 4, 0, 5), 0, 1),
+        (&bad, 576, flow(0, 4, 0, 5), 0, 14),
+        (&good, 576, flow(0, 4, 0, 5), 0, 5),
+        (&good, 576, flow(0, 4, 4, 5), 0, 6),
+        (&good, 576, flow(0, 2, 4, 5), 0, 15),
+        (&good, 576, flow(5, 2, 4, 5), 0, 17),
+        (&good, 576, flow(5, 2, 3, 5), 0, 18),
+        (&good, 576, flow(5, 2, 3, 6), 30, 1),
     ];
-    for (plan, counters, [number, entry, rate], deadline, room, refusal) in lines {
-        let flow = NewFlow {
-            number,
-            entry,
-            rate,
-            deadline,
-        };
+    for (plan, counters, flow, room, refusal) in lines {
         let admit = |functions: &Functions, lent: &mut Lent| {
             let counters = &mut lent.counters[..counters];
             (functions.admit)(plan, counters, flow, &mut lent.out[..room])
