@@ -28,7 +28,7 @@ fn heading() -> String {
         "Processor: {}\n\
         Rattle: the compiled library, {}\n\
         Rust: `plain`, standard library only, no unsafe, bounds checks; opt-level 3, one codegen unit, link-time optimization\n\
-        Each time is the median of 401 batches of at least 50 µs, of 5 for a rehearsal of more than 1,000 slots; those of the two alternate.\n\
+        Each time is the median of 401 batches of at least 100 µs, of 5 for a rehearsal of more than 1,000 slots; those of the two alternate.\n\
         Sites: small with 3 links and 1 flow, typical with 16 and 12, largest with 63 and 64\n\
         Buffers are made before the clock starts and are not cleared between calls; the counters are 0 before each rehearsal.\n",
         processor(),
@@ -49,8 +49,7 @@ fn share_of_check_14(mark: Times, slot: Times) -> [String; 3] {
 }
 
 /// The lines of a site, each with its name and three cells, and check 14's share below `mark`.
-fn site_lines(case: &Case) -> Result<Vec<(&'static str, [String; 3])>, String> {
-    let times = measure(&OF_SITES.map(|(_, row)| (row, case)))?;
+fn site_lines(times: &[Times]) -> Vec<(&'static str, [String; 3])> {
     let of_row = |row: Row| {
         let index = OF_SITES.iter().position(|&(_, other)| other == row);
         times[index.expect("a row of the table")]
@@ -59,40 +58,48 @@ fn site_lines(case: &Case) -> Result<Vec<(&'static str, [String; 3])>, String> {
     let names = OF_SITES.iter().map(|&(name, _)| name);
     let mut lines: Vec<_> = names.zip(times.iter().copied().map(cells)).collect();
     lines.insert(1, ("check 14's share of a slot", share));
-    Ok(lines)
+    lines
 }
 
-fn sites_table() -> Result<String, String> {
+/// The times are those of `OF_SITES` for one site after the other.
+fn sites_table(names: &[&str], times: &[Times]) -> String {
     let mut heading = vec![String::new()];
-    let mut sites = Vec::new();
-    for (name, plan) in sites::plans() {
-        sites.push(site_lines(&Case::of_plan(plan))?);
+    for name in names {
         heading.extend([format!("{name}: Rattle"), "Rust".into(), "ratio".into()]);
     }
+    let sites: Vec<_> = times.chunks(OF_SITES.len()).map(site_lines).collect();
     let mut rows = vec![heading];
     for index in 0..sites[0].len() {
         let mut row = vec![sites[0][index].0.to_string()];
         row.extend(sites.iter().flat_map(|lines| lines[index].1.clone()));
         rows.push(row);
     }
-    Ok(table(&rows))
+    table(&rows)
 }
 
-fn lists_table() -> Result<String, String> {
-    let case = Case::of_plan(sites::largest_plan());
-    let times = measure(&OF_LISTS.map(|(_, row)| (row, &case)))?;
+fn lists_table(times: &[Times]) -> String {
     let heading = ["slot rule", "Rattle", "Rust", "ratio"];
     let mut rows = vec![heading.map(String::from).to_vec()];
-    for ((name, _), times) in OF_LISTS.into_iter().zip(times) {
+    for ((name, _), &times) in OF_LISTS.iter().zip(times) {
         let mut row = vec![name.to_string()];
         row.extend(cells(times));
         rows.push(row);
     }
-    Ok(table(&rows))
+    table(&rows)
 }
 
+/// All is measured in the same rounds. The slot rule alone takes no site: any does.
 fn report() -> Result<String, String> {
-    Ok(format!("{}\n{}", sites_table()?, lists_table()?))
+    let plans = sites::plans();
+    let names = plans.each_ref().map(|plan| plan.0);
+    let cases = plans.map(|(_, plan)| Case::of_plan(plan));
+    let of_sites = cases.iter();
+    let of_sites = of_sites.flat_map(|case| OF_SITES.map(|(_, row)| (row, case)));
+    let of_lists = OF_LISTS.map(|(_, row)| (row, &cases[0]));
+    let times = measure(&of_sites.chain(of_lists).collect::<Vec<_>>())?;
+    let (of_sites, of_lists) = times.split_at(names.len() * OF_SITES.len());
+    let tables = [sites_table(&names, of_sites), lists_table(of_lists)];
+    Ok(tables.join("\n"))
 }
 
 fn print(report: Result<String, String>) -> u8 {

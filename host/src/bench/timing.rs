@@ -6,7 +6,7 @@ use crate::functions::{RATTLE, RUST};
 use std::time::{Duration, Instant};
 
 /// Long against what the clock itself takes and can tell apart.
-const SHORTEST_BATCH: Duration = Duration::from_micros(50);
+const SHORTEST_BATCH: Duration = Duration::from_micros(100);
 
 /// The nanoseconds of one run of a row.
 #[derive(Clone, Copy)]

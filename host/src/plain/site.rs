@@ -3,6 +3,7 @@
 use super::rule::deal;
 use crate::bytes::{COMMAND_LENGTH, END, FLOW, NODE};
 use crate::rules::{refuse, Refusal, FLOW_NUMBERS, MOST_DEPTH, MOST_LINKS};
+use std::ops::Range;
 
 /// The root has number 0, so that a node's number is its index.
 const NODES: usize = MOST_LINKS + 1;
@@ -145,6 +146,11 @@ impl FixedSite {
         Ok(())
     }
 
+    /// Half open, of which the compiler makes the shorter loop.
+    pub fn nodes(&self) -> Range<usize> {
+        1..self.links + 1
+    }
+
     fn check_end(&self, plan: &[u8], at: usize) -> Result<(), Refusal> {
         if self.links == 0 {
             return refuse(9, at);
@@ -157,14 +163,14 @@ impl FixedSite {
 
     /// The nodes in their order are handed to their parents' places in the list of children.
     fn list_children(&mut self) {
-        for node in 1..=self.links {
+        for node in self.nodes() {
             self.begins[usize::from(self.parents[node]) + 1] += 1;
         }
-        for parent in 0..=self.links {
+        for parent in 0..NODES {
             self.begins[parent + 1] += self.begins[parent];
         }
         let mut next = self.begins;
-        for node in 1..=self.links {
+        for node in self.nodes() {
             let place = &mut next[usize::from(self.parents[node])];
             self.children[usize::from(*place)] = node as u8;
             *place += 1;
@@ -180,7 +186,7 @@ impl FixedSite {
         self.list_children();
         let (mut gaps, mut offsets, mut periods) =
             ([0; MOST_LINKS], [0; MOST_LINKS], [0; MOST_LINKS]);
-        for parent in 0..=self.links {
+        for parent in 0..self.links + 1 {
             let begin = usize::from(self.begins[parent]);
             let count = usize::from(self.begins[parent + 1]) - begin;
             if count == 0 {
@@ -205,7 +211,7 @@ impl FixedSite {
     /// 12. A parent's number is below its children's, so going down all rates of a link have come to it when it is judged.
     fn check_widths(&mut self) -> Result<(), Refusal> {
         let mut lowest = 0;
-        for node in (1..=self.links).rev() {
+        for node in self.nodes().rev() {
             if !self.has_room(node, 0) {
                 lowest = node;
             }

@@ -31,9 +31,9 @@ pub fn check_counts(
 /// The slot once all checks have passed.
 pub fn pass(site: &FixedSite, counters: &mut Counters, arrivals: &Arrivals, slot: u32) {
     let mut sending = [0; MOST_LINKS + 1];
-    for (link, gap) in sending.iter_mut().enumerate().skip(1).take(site.links) {
+    for link in site.nodes() {
         if site.sends(link, slot) {
-            *gap = u32::from(site.gaps[link]);
+            sending[link] = u32::from(site.gaps[link]);
         }
     }
     for flow in site.flows() {
