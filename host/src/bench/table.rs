@@ -2,12 +2,12 @@
 
 /// Three digits, as far as the clock has them.
 pub fn shown_time(nanoseconds: f64) -> String {
-    let (value, unit) = match nanoseconds {
+    let (value, unit) = match nanoseconds.abs() {
         ..1e3 => (nanoseconds, "ns"),
         1e3..1e6 => (nanoseconds / 1e3, "µs"),
         _ => (nanoseconds / 1e6, "ms"),
     };
-    let digits = match value {
+    let digits = match value.abs() {
         ..10.0 => 2,
         10.0..100.0 => 1,
         _ => 0,
@@ -47,6 +47,7 @@ mod tests {
     #[test]
     fn times_have_three_digits_and_a_unit() {
         let times = [
+            -20.04,
             0.5,
             12.34,
             999.0,
@@ -57,7 +58,7 @@ mod tests {
         ];
         let shown = times.map(shown_time);
         let expected = [
-            "0.50 ns", "12.3 ns", "999 ns", "1.00 µs", "45.7 µs", "999 µs", "123 ms",
+            "-20.0 ns", "0.50 ns", "12.3 ns", "999 ns", "1.00 µs", "45.7 µs", "999 µs", "123 ms",
         ];
         assert_eq!(shown, expected);
     }
