@@ -6,21 +6,19 @@ use std::process::Command;
 
 const FOLDER: &str = "SLOTPLAN_LIBRARY";
 
-/// The archive that `rt staticlib embed` writes once it has proved the crate and all that it rests on.
+/// The folder of the archive that `rt staticlib embed` writes once it has proved the crate and all that it rests on.
 fn built(top: &Path) -> PathBuf {
     println!("cargo:rerun-if-changed={}", top.join("crates").display());
     println!(
         "cargo:rerun-if-changed={}",
         top.join("crates.txt").display()
     );
-    let archive = top.join("target/staticlib/libembed.a");
-    println!("cargo:rerun-if-changed={}", archive.display());
     let run = Command::new("rt")
         .args(["staticlib", "embed"])
         .current_dir(top)
         .status();
     match run {
-        Ok(status) if status.success() => archive.with_file_name(""),
+        Ok(status) if status.success() => top.join("target/staticlib"),
         Ok(status) => panic!("`rt staticlib embed` ended with {status}"),
         Err(error) => panic!(
             "`rt`: {error}. Install the Rattle kit and put rt on the path, or name a folder with libembed.a in {FOLDER}"
@@ -37,7 +35,7 @@ fn main() {
     };
     let archive = folder.join("libembed.a");
     println!("cargo:rerun-if-changed={}", archive.display());
-    // A test compiles a host in C and links it with the same archive.
+    // The times name the archive, and a test links a host in C with it.
     println!("cargo:rustc-env=SLOTPLAN_ARCHIVE={}", archive.display());
     println!("cargo:rustc-link-search=native={}", folder.display());
     println!("cargo:rustc-link-lib=static=embed");

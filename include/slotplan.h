@@ -3,10 +3,10 @@
  * `rt staticlib embed` proves them and writes target/staticlib/libembed.a for x86-64 Linux.
  *
  * The state of a live site is its plan bytes and 576 counters.  The host keeps both; the library
- * keeps nothing between calls, reserves no memory and calls nothing.  A function that changes the
- * site takes the bytes as they are and writes the new ones into another buffer.  Bytes and sites
- * turn into each other without change, so a file with the bytes of the last change is the live
- * site.
+ * keeps nothing between calls and reserves no memory.  Of the C library the archive asks for memcpy
+ * and memset, and for nothing else.  A function that changes the site takes the bytes as they are
+ * and writes the new ones into another buffer.  Bytes and sites turn into each other without
+ * change, so a file with the bytes of the last change is the live site.
  *
  * What a host must guarantee, since nothing here can test it: each pointer is aligned for its type
  * and leads to as many elements as the length behind it says, all of them readable, and writable

@@ -1,10 +1,9 @@
-//! Hosts that hand in any bytes, numbers and lengths. Their calls go through the raw declarations, and whatever a call must not
-//! write is compared after it.
+//! Hosts that hand in any bytes, numbers and lengths. Whatever a call must not write is compared after it.
 
 use crate::bytes::END;
 use crate::calls::{CELLS, COUNTERS};
 use crate::compare::status_of;
-use crate::library::{declared, told, Answer, NewFlow};
+use crate::library::{self, Answer, NewFlow};
 use crate::programs::hex;
 use crate::random::Random;
 use crate::random_gaps::gap_list;
@@ -36,8 +35,10 @@ impl<T: Copy + PartialEq + From<u8>> Lent<T> {
         self.cells.len() - 2 * self.margin
     }
 
-    fn pointer(&mut self) -> *mut T {
-        self.cells[self.margin..].as_mut_ptr()
+    /// What the call gets.
+    fn list(&mut self) -> &mut [T] {
+        let length = self.len();
+        &mut self.cells[self.margin..][..length]
     }
 
     fn is_unchanged(&self) -> bool {
@@ -81,8 +82,7 @@ struct Host {
 type Judged = Result<Answer, String>;
 
 impl Host {
-    fn judge(&mut self, name: &str, answer: u64, parts: impl Fn(usize) -> Parts) -> Judged {
-        let answer = told(answer);
+    fn judge(&mut self, name: &str, answer: Answer, parts: impl Fn(usize) -> Parts) -> Judged {
         let parts = answer.map_or(Parts::default(), |value| parts(value as usize));
         let holds = self.plan.is_unchanged()
             && self.arrivals.is_unchanged()
@@ -110,15 +110,12 @@ impl Host {
     }
 
     fn mark(&mut self) -> Judged {
-        let answer = unsafe { declared::slotplan_mark(self.plan.pointer(), self.plan.len()) };
+        let answer = library::mark(self.plan.list());
         self.judge("mark", answer, |_| Parts::default())
     }
 
     fn schedule(&mut self) -> Judged {
-        let (plan, out) = (&mut self.plan, &mut self.out);
-        let answer = unsafe {
-            declared::slotplan_schedule(plan.pointer(), plan.len(), out.pointer(), out.len())
-        };
+        let answer = library::schedule(self.plan.list(), self.out.list());
         self.judge("schedule", answer, |length| Parts {
             out: 0..length,
             ..Parts::default()
@@ -126,21 +123,8 @@ impl Host {
     }
 
     fn admit(&mut self, flow: NewFlow) -> Judged {
-        let (plan, counters, out) = (&mut self.plan, &mut self.counters, &mut self.out);
-        let answer = unsafe {
-            declared::slotplan_admit(
-                plan.pointer(),
-                plan.len(),
-                counters.pointer(),
-                counters.len(),
-                flow.number,
-                flow.entry,
-                flow.rate,
-                flow.deadline,
-                out.pointer(),
-                out.len(),
-            )
-        };
+        let (plan, counters) = (self.plan.list(), self.counters.list());
+        let answer = library::admit(plan, counters, flow, self.out.list());
         self.judge("admit", answer, |length| Parts {
             out: 0..length,
             counters: cells_of(flow.number),
@@ -148,18 +132,8 @@ impl Host {
     }
 
     fn release(&mut self, number: u8) -> Judged {
-        let (plan, counters, out) = (&mut self.plan, &mut self.counters, &mut self.out);
-        let answer = unsafe {
-            declared::slotplan_release(
-                plan.pointer(),
-                plan.len(),
-                counters.pointer(),
-                counters.len(),
-                number,
-                out.pointer(),
-                out.len(),
-            )
-        };
+        let (plan, counters) = (self.plan.list(), self.counters.list());
+        let answer = library::release(plan, counters, number, self.out.list());
         self.judge("release", answer, |length| Parts {
             out: 0..length,
             counters: cells_of(number),
@@ -167,49 +141,31 @@ impl Host {
     }
 
     fn start(&mut self) -> Judged {
-        let (plan, counters) = (&mut self.plan, &mut self.counters);
-        let answer = unsafe {
-            declared::slotplan_start(
-                plan.pointer(),
-                plan.len(),
-                counters.pointer(),
-                counters.len(),
-            )
-        };
-        self.judge("start", answer, |_| Parts {
-            counters: 0..COUNTERS,
-            ..Parts::default()
-        })
+        let answer = library::start(self.plan.list(), self.counters.list());
+        self.judge_counting("start", answer)
     }
 
     fn slot(&mut self, number: u32) -> Judged {
-        let (plan, counters, arrivals) = (&mut self.plan, &mut self.counters, &mut self.arrivals);
-        let answer = unsafe {
-            declared::slotplan_slot(
-                plan.pointer(),
-                plan.len(),
-                counters.pointer(),
-                counters.len(),
-                arrivals.pointer(),
-                arrivals.len(),
-                number,
-            )
-        };
-        self.judge("slot", answer, |_| Parts {
+        let (plan, counters) = (self.plan.list(), self.counters.list());
+        let answer = library::slot(plan, counters, self.arrivals.list(), number);
+        self.judge_counting("slot", answer)
+    }
+
+    /// A call that may write all counters, and nothing else.
+    fn judge_counting(&mut self, name: &str, answer: Answer) -> Judged {
+        self.judge(name, answer, |_| Parts {
             counters: 0..COUNTERS,
             ..Parts::default()
         })
     }
 
     fn sender(&mut self, parent: u8, slot: u32) -> Judged {
-        let plan = &mut self.plan;
-        let answer = unsafe { declared::slotplan_sender(plan.pointer(), plan.len(), parent, slot) };
+        let answer = library::sender(self.plan.list(), parent, slot);
         self.judge("sender", answer, |_| Parts::default())
     }
 
     fn bound(&mut self, number: u8) -> Judged {
-        let plan = &mut self.plan;
-        let answer = unsafe { declared::slotplan_bound(plan.pointer(), plan.len(), number) };
+        let answer = library::bound(self.plan.list(), number);
         self.judge("bound", answer, |_| Parts::default())
     }
 }
@@ -232,16 +188,7 @@ impl Children {
 
     fn deal(&mut self) -> Judged {
         let (gaps, offsets, periods) = (&mut self.gaps, &mut self.offsets, &mut self.periods);
-        let answer = told(unsafe {
-            declared::slotplan_deal(
-                gaps.pointer(),
-                gaps.len(),
-                offsets.pointer(),
-                offsets.len(),
-                periods.pointer(),
-                periods.len(),
-            )
-        });
+        let answer = library::deal(gaps.list(), offsets.list(), periods.list());
         let filled = 0..answer.map_or(0, |_| gaps.len());
         let holds = gaps.is_unchanged()
             && offsets.is_unchanged_but(&filled)

@@ -198,7 +198,6 @@ pub fn written(site: &Site, writer: Writer) -> Result<Vec<u8>, Refusal> {
 }
 
 /// Plan P of 01, with this capacity on link 3 and this deadline.
-#[cfg(test)]
 pub fn plan_p(capacity: u64, deadline: u64) -> Vec<u8> {
     let mut bytes = node_command(0, 20, 4);
     bytes.extend(node_command(0, 20, 6));

@@ -1,13 +1,12 @@
 //! Tests of the library as a C compiler sees it: the header alone, and a host in C.
 
+use crate::library::ARCHIVE;
 use crate::lines::first_difference;
 use std::fs;
 use std::io::ErrorKind;
 use std::path::{Path, PathBuf};
 use std::process::Command;
 
-/// The archive that this program is linked with.
-const ARCHIVE: &str = env!("SLOTPLAN_ARCHIVE");
 const WARNINGS: [&str; 4] = ["-Wall", "-Wextra", "-Werror", "-pedantic"];
 
 fn top() -> PathBuf {

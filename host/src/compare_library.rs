@@ -1,4 +1,4 @@
-//! The compiled library against this implementation, in one process, on random lists of calls.
+//! Two implementations of the functions, in one process, on random lists of calls.
 
 use crate::compare::status_of;
 use crate::functions::{LIBRARY, MODEL};
@@ -125,24 +125,37 @@ mod tests {
     use super::*;
     use crate::bytes::{read_plan, COMMAND_LENGTH};
     use crate::calls::{CELLS, COUNTERS};
-    use crate::functions::Functions;
+    use crate::functions::{Functions, PLAIN};
     use crate::host_calls::Call;
     use crate::library::NewFlow;
     use crate::model;
     use crate::programs::hex;
     use crate::rules::refuse;
 
-    /// Every number that a function may answer is met at least 50 times.
-    #[test]
-    fn the_library_does_what_the_model_does() {
-        let mut comparison = Comparison::new(Pair {
-            judged: LIBRARY,
-            right: MODEL,
-        });
-        let result = comparison.run(250_000, &mut Random::from_seed(20));
+    /// In 250,000 cases each function is accepted at least 2,000 times and refused by each of its numbers at least 200 times.
+    fn assert_equal(judged: Functions, right: Functions, [count, seed]: [u64; 2]) {
+        let mut comparison = Comparison::new(Pair { judged, right });
+        let result = comparison.run(count, &mut Random::from_seed(seed));
         assert!(result.is_ok(), "{}", result.unwrap_err());
         let tally = &comparison.tally;
-        assert!(tally.all_reach(50) && tally.all_accepted(2000), "{tally}");
+        assert!(tally.all_reach(count / 1250), "{tally}");
+        assert!(tally.all_accepted(count / 125), "{tally}");
+    }
+
+    #[test]
+    fn the_library_does_what_the_model_does() {
+        assert_equal(LIBRARY, MODEL, [250_000, 20]);
+    }
+
+    #[test]
+    fn plain_rust_does_what_the_library_does() {
+        assert_equal(PLAIN, LIBRARY, [250_000, 22]);
+    }
+
+    /// The model is slow.
+    #[test]
+    fn plain_rust_does_what_the_model_does() {
+        assert_equal(PLAIN, MODEL, [100_000, 23]);
     }
 
     /// What the comparison of a mistaken implementation with the model ends with. The list has to be small.
@@ -252,6 +265,22 @@ mod tests {
         shows(&behind, "out[7]: found 0, expected ");
         shows(&in_front, "out[0]: found 11, expected ");
         shows(&in_front, "schedule room ");
+    }
+
+    /// Two that make the same mistake are equal, but a refusal has to leave the memory as it was.
+    #[test]
+    fn a_byte_that_a_refusal_of_both_writes_is_found() {
+        let judged = Functions {
+            schedule: byte_in_front,
+            ..MODEL
+        };
+        let mut comparison = Comparison::new(Pair {
+            judged,
+            right: judged,
+        });
+        let result = comparison.run(1000, &mut Random::from_seed(21));
+        let difference = result.expect_err("the mistake is not found");
+        shows(&difference, "out[0]: found 11, expected ");
     }
 
     /// The counters are set before the buffer is judged.

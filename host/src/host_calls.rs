@@ -4,7 +4,7 @@ use crate::calls::COUNTERS;
 use crate::functions::Functions;
 use crate::library::{Answer, NewFlow};
 use crate::programs::{hex, refused};
-use std::fmt;
+use std::{fmt, iter};
 
 /// Cells before each lent list and behind the longest one that is lent, which no call may touch.
 const MARGIN: usize = 16;
@@ -235,9 +235,8 @@ impl Memory {
         }
     }
 
-    /// The answer to a call. After an accepted change the written bytes are the plan.
-    pub fn answer(&mut self, functions: &Functions, step: &Step) -> Answer {
-        self.prepare(step);
+    /// The answer to a call, for which the memory is prepared. After an accepted change the written bytes are the plan.
+    fn answer(&mut self, functions: &Functions, step: &Step) -> Answer {
         let plan = step.other_plan.as_ref().unwrap_or(&self.plan).clone();
         let answer = self.call(functions, &plan, &step.call);
         if let (Call::Admit { room, .. } | Call::Release { room, .. }, Ok(length)) =
@@ -252,7 +251,7 @@ impl Memory {
     fn call(&mut self, functions: &Functions, plan: &[u8], call: &Call) -> Answer {
         let (counters, out) = (&mut self.counters[MARGIN..], &mut self.out[MARGIN..]);
         match call {
-            Call::Mark => (functions.mark)(plan).map(|(links, flows)| links + 256 * flows),
+            Call::Mark => (functions.mark)(plan),
             Call::Schedule { room } => (functions.schedule)(plan, &mut out[..*room]),
             Call::Admit { lent, flow, room } => {
                 (functions.admit)(plan, &mut counters[..*lent], *flow, &mut out[..*room])
@@ -312,7 +311,10 @@ pub struct Pair {
 
 impl Pair {
     /// Makes a call of both on the same memory, which is left as the judged one leaves it. The error is the difference in words.
+    /// A refusal has to leave the memory as it was.
     pub fn compare(&self, memory: &mut Memory, step: &Step) -> Result<Answer, String> {
+        memory.prepare(step);
+        let before = memory.clone();
         let mut expected_memory = memory.clone();
         let found = memory.answer(&self.judged, step);
         let expected = expected_memory.answer(&self.right, step);
@@ -320,7 +322,9 @@ impl Pair {
             let (found, expected) = (shown_answer(found), shown_answer(expected));
             return Err(format!("found {found}, expected {expected}"));
         }
-        match memory.difference(&expected_memory) {
+        let kept = found.err().map(|_| &before);
+        let mut rights = iter::once(&expected_memory).chain(kept);
+        match rights.find_map(|right| memory.difference(right)) {
             Some(difference) => Err(difference),
             None => Ok(found),
         }

@@ -3,6 +3,9 @@
 
 use crate::rules::Refusal;
 
+/// The file that this program is linked with.
+pub const ARCHIVE: &str = env!("SLOTPLAN_ARCHIVE");
+
 pub mod declared {
     extern "C" {
         pub fn slotplan_mark(plan: *const u8, length: usize) -> u64;
@@ -59,9 +62,6 @@ pub mod declared {
 /// The value of an answer, or its number and place.
 pub type Answer = Result<u64, Refusal>;
 
-/// How many links and how many flows a plan has.
-pub type Marked = Result<(u64, u64), Refusal>;
-
 pub fn told(answer: u64) -> Answer {
     let rest = answer & ((1 << 56) - 1);
     match answer >> 56 {
@@ -73,9 +73,9 @@ pub fn told(answer: u64) -> Answer {
     }
 }
 
-pub fn mark(plan: &[u8]) -> Marked {
-    let answer = unsafe { declared::slotplan_mark(plan.as_ptr(), plan.len()) };
-    told(answer).map(|value| (value & 255, value >> 8))
+/// The links, and from bit 8 on the flows.
+pub fn mark(plan: &[u8]) -> Answer {
+    told(unsafe { declared::slotplan_mark(plan.as_ptr(), plan.len()) })
 }
 
 pub fn schedule(plan: &[u8], out: &mut [u8]) -> Answer {
@@ -169,17 +169,4 @@ pub fn deal(gaps: &[u16], offsets: &mut [u16], periods: &mut [u16]) -> Answer {
             periods.len(),
         )
     })
-}
-
-#[cfg(test)]
-mod tests {
-    use super::*;
-    use crate::bytes::plan_p;
-
-    #[test]
-    fn plan_p_is_marked() {
-        assert_eq!(mark(&plan_p(9, 7)), Ok((3, 1)));
-        let refused = mark(&plan_p(9, 6)).unwrap_err();
-        assert_eq!((refused.number, refused.place), (13, 0));
-    }
 }

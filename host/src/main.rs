@@ -1,6 +1,7 @@
-//! A second implementation of document 01, for comparison with the programs under crates/.
+//! A second implementation of document 01, for comparison with the programs under crates/ and with their library.
 
 mod bad_hosts;
+mod bench;
 mod bytes;
 #[cfg(test)]
 mod c_hosts;
@@ -12,14 +13,13 @@ mod damage;
 #[cfg(test)]
 mod declarations;
 mod expected;
-mod fixed;
 mod functions;
 mod host_calls;
 mod library;
 mod lines;
-mod measure;
 mod model;
 mod outcomes;
+mod plain;
 mod programs;
 mod random;
 mod random_calls;
@@ -38,44 +38,44 @@ mod watch;
 use std::path::Path;
 use std::process::ExitCode;
 
-const USAGE: &str = "host expected [--write]\nhost random N SEED [--bin DIR]\nhost watch N SEED\n\
-    host library N SEED\nhost bad-hosts N SEED\nhost measure PLAN_FILE";
+const USAGE: &str =
+    "host bad-hosts N SEED\nhost bench [growth]\nhost expected [--write]\nhost library N SEED\n\
+    host random N SEED [--bin DIR]\nhost repeat ROW SITE rattle|rust N\nhost watch N SEED";
+
+/// A command that takes how many inputs to make, and from which seed.
+fn seeded(count: &str, seed: &str, command: impl Fn(u64, u64) -> u8) -> Option<u8> {
+    Some(command(count.parse().ok()?, seed.parse().ok()?))
+}
 
 fn random(count: &str, seed: &str, folder: &str) -> Option<u8> {
-    let (count, seed) = (count.parse().ok()?, seed.parse().ok()?);
-    Some(compare::compare_random(count, seed, Path::new(folder)))
+    seeded(count, seed, |count, seed| {
+        compare::compare_random(count, seed, Path::new(folder))
+    })
 }
 
-fn watch(count: &str, seed: &str) -> Option<u8> {
-    let (count, seed) = (count.parse().ok()?, seed.parse().ok()?);
-    Some(compare::watch_random(count, seed))
-}
-
-fn library(count: &str, seed: &str) -> Option<u8> {
-    let (count, seed) = (count.parse().ok()?, seed.parse().ok()?);
-    Some(compare_library::compare_library(count, seed))
-}
-
-fn bad_hosts(count: &str, seed: &str) -> Option<u8> {
-    let (count, seed) = (count.parse().ok()?, seed.parse().ok()?);
-    Some(bad_hosts::try_bad_hosts(count, seed))
+/// The exit status, or None if there is no such command.
+fn status(words: &[&str]) -> Option<u8> {
+    match *words {
+        ["bad-hosts", count, seed] => seeded(count, seed, bad_hosts::try_bad_hosts),
+        ["bench"] => Some(bench::bench()),
+        ["bench", "growth"] => Some(bench::bench_growth()),
+        ["expected"] => Some(expected::check_all(false)),
+        ["expected", "--write"] => Some(expected::check_all(true)),
+        ["library", count, seed] => seeded(count, seed, compare_library::compare_library),
+        ["random", count, seed] => random(count, seed, "target/bin"),
+        ["random", count, seed, "--bin", folder] => random(count, seed, folder),
+        ["repeat", row, site, implementation, count] => {
+            bench::repeat(row, site, implementation, count)
+        }
+        ["watch", count, seed] => seeded(count, seed, compare::watch_random),
+        _ => None,
+    }
 }
 
 fn main() -> ExitCode {
     let words: Vec<String> = std::env::args().skip(1).collect();
     let words: Vec<&str> = words.iter().map(String::as_str).collect();
-    let status = match words.as_slice() {
-        ["expected"] => Some(expected::check_all(false)),
-        ["expected", "--write"] => Some(expected::check_all(true)),
-        ["random", count, seed] => random(count, seed, "target/bin"),
-        ["random", count, seed, "--bin", folder] => random(count, seed, folder),
-        ["watch", count, seed] => watch(count, seed),
-        ["library", count, seed] => library(count, seed),
-        ["bad-hosts", count, seed] => bad_hosts(count, seed),
-        ["measure", path] => Some(measure::measure(path)),
-        _ => None,
-    };
-    let status = status.unwrap_or_else(|| {
+    let status = status(&words).unwrap_or_else(|| {
         eprintln!("{USAGE}");
         2
     });

@@ -2,13 +2,14 @@
 
 use crate::bytes::{read_plan, write_plan, write_schedule};
 use crate::calls::{self, admission, COUNTERS};
-use crate::library::{Answer, Marked, NewFlow};
+use crate::library::{Answer, NewFlow};
 use crate::rules::{refuse, slot_rule, Flow, Refusal, Site, FLOW_NUMBERS};
 use crate::slots;
 
-pub fn mark(plan: &[u8]) -> Marked {
+/// The links, and from bit 8 on the flows.
+pub fn mark(plan: &[u8]) -> Answer {
     let site = read_plan(plan)?;
-    Ok((site.links, site.live_flows().len() as u64))
+    Ok(site.links + 256 * site.live_flows().len() as u64)
 }
 
 pub fn schedule(plan: &[u8], out: &mut [u8]) -> Answer {
@@ -112,53 +113,4 @@ pub fn deal(gaps: &[u16], offsets: &mut [u16], periods: &mut [u16]) -> Answer {
     narrowed(&dealt, offsets);
     narrowed(&served, periods);
     Ok(base)
-}
-
-#[cfg(test)]
-mod tests {
-    use super::*;
-    use crate::bytes::plan_p;
-
-    const NEW: NewFlow = NewFlow {
-        number: 5,
-        entry: 2,
-        rate: 3,
-        deadline: 6,
-    };
-
-    /// From one line to the next the first failing check is mended.
-    #[test]
-    fn checks_of_an_admission_come_in_the_order_of_the_header() {
-        let mut counters = vec![7; COUNTERS + 1];
-        let mut answer = |plan: &[u8], lent: usize, flow: NewFlow, room: usize| {
-            let mut out = vec![9; room];
-            let answer = admit(plan, &mut counters[..lent], flow, &mut out);
-            assert!(answer.is_ok() || counters.iter().all(|&cell| cell == 7));
-            assert!(answer.is_ok() || out.iter().all(|&byte| byte == 9));
-            answer
-        };
-        let (refused, plan) = (plan_p(9, 6), plan_p(9, 7));
-        let wrong = NewFlow { rate: 0, ..NEW };
-        assert_eq!(answer(&refused, 577, wrong, 0), refuse(1, 0));
-        assert_eq!(answer(&refused, 576, wrong, 0), refuse(14, 0));
-        assert_eq!(answer(&plan, 576, wrong, 0), refuse(5, 0));
-        let late = NewFlow { deadline: 5, ..NEW };
-        assert_eq!(answer(&plan, 576, late, 0), refuse(18, 5));
-        assert_eq!(answer(&plan, 576, NEW, 30), refuse(1, 0));
-        assert_eq!(answer(&plan, 576, NEW, 31), Ok(31));
-        assert_eq!(counters[44..55], [7, 0, 0, 0, 0, 0, 0, 0, 0, 0, 7]);
-    }
-
-    #[test]
-    fn bounds_and_senders_of_p() {
-        let plan = plan_p(9, 7);
-        assert_eq!(mark(&plan), Ok((3, 1)));
-        assert_eq!(bound(&plan, 0), Ok(7));
-        assert_eq!(bound(&plan, 63), refuse(16, 63));
-        assert_eq!(bound(&plan, 64), refuse(5, 0));
-        assert_eq!(bound(&plan[..24], 64), refuse(14, 0));
-        assert_eq!(sender(&plan, 0, 5), Ok(2));
-        assert_eq!(sender(&plan, 4, 5), refuse(6, 0));
-        assert_eq!(sender(&[], 0, 5), refuse(14, 0));
-    }
 }

@@ -1,5 +1,6 @@
 use super::*;
 use crate::bytes::{flow_command, node_command, plan_p};
+use crate::library::{declared, told};
 use crate::model;
 use std::ptr::{null_mut, without_provenance_mut};
 use std::thread;
@@ -239,18 +240,8 @@ fn two_hosts_may_lend_the_same_plan() {
         let mut counters = [0; COUNTERS];
         let mut arrivals = [0; 64];
         arrivals[0] = 3;
-        let slots = (0..=16).map(|number| unsafe {
-            declared::slotplan_slot(
-                bytes.as_ptr(),
-                bytes.len(),
-                counters.as_mut_ptr(),
-                COUNTERS,
-                arrivals.as_ptr(),
-                64,
-                number,
-            )
-        });
-        let answers: Vec<Answer> = slots.map(told).collect();
+        let slots = (0..=16).map(|number| library::slot(bytes, &mut counters, &arrivals, number));
+        let answers: Vec<Answer> = slots.collect();
         (answers, counters[..9].to_vec())
     };
     thread::scope(|scope| {
@@ -270,16 +261,10 @@ fn lists_may_begin_at_any_aligned_address() {
         let mut out = [9; 48];
         let mut counters = [5; COUNTERS + 16];
         let arrivals: [u16; 80] = [0; 80];
-        let answers = unsafe {
-            let plan = plan[shift..].as_ptr();
-            let (out, cells) = (out[shift..].as_mut_ptr(), counters[shift..].as_mut_ptr());
-            let listed = arrivals[shift..].as_ptr();
-            [
-                declared::slotplan_schedule(plan, 25, out, 19),
-                declared::slotplan_slot(plan, 25, cells, 576, listed, 64, 3),
-            ]
-        };
-        assert_eq!(answers.map(told), [Ok(19), Ok(0)]);
+        let (lent, cells) = (&plan[shift..], &mut counters[shift..][..COUNTERS]);
+        let scheduled = library::schedule(lent, &mut out[shift..][..19]);
+        let passed = library::slot(lent, cells, &arrivals[shift..][..64], 3);
+        assert_eq!((scheduled, passed), (Ok(19), Ok(0)));
         let mut expected = [9; 48];
         model::schedule(&plan[shift..], &mut expected[shift..]).unwrap();
         assert_eq!(out, expected);
@@ -306,7 +291,7 @@ fn a_changed_cell_is_objected_to() {
         out: 0..length,
         counters: cells_of(5),
     };
-    assert_eq!(host.judge("admit", 31, parts), Ok(Ok(31)));
+    assert_eq!(host.judge("admit", Ok(31), parts), Ok(Ok(31)));
     let writes: [fn(&mut Host); 7] = [
         |host| host.plan.cells[MARGIN] ^= 1,
         |host| host.arrivals.cells[MARGIN + 63] ^= 1,
@@ -318,13 +303,13 @@ fn a_changed_cell_is_objected_to() {
     ];
     for write in writes {
         write(&mut host);
-        assert!(host.judge("admit", 30, parts).is_err());
+        assert!(host.judge("admit", Ok(30), parts).is_err());
         host.plan.restore();
         host.arrivals.restore();
         host.counters.restore();
         host.out.restore();
     }
-    assert!(host.judge("admit", 32, parts).is_err());
+    assert!(host.judge("admit", Ok(32), parts).is_err());
     host.out.cells[MARGIN] ^= 1;
-    assert!(host.judge("admit", 17 << 56, parts).is_err());
+    assert!(host.judge("admit", refuse(17, 0), parts).is_err());
 }
