@@ -10,7 +10,7 @@ ghost use Prim.Native.Nat.{_<_};
 ghost use Rattle.limits.specs.Check.{illNode, illFlow, firstIllNode, firstIllFlow, same, stands, passesOf, callFault};
 
 // The node at index i of a site with so many links is not within its limits or, past the last link, not all 0.
-fn ill_node(links: u8, parents: &[u8], i: usize, node: Node) -> bool
+fn ill_node(links: u8, parents: &[u8; 63], i: usize, node: Node) -> bool
     requires { ⌜ i < 63 ⌝ }
     ensures { λ r. ⌜ r ≡ illNode links (now (parents .entry)) i node ⌝ }
 {

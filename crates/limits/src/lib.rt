@@ -15,7 +15,7 @@ pub struct Node {
 }
 
 // 5, 6 and 8 for a node that follows k others with these parents: the first that it fails, 0 where it fails none.
-pub fn node_limits(parents: &[u8], k: u8, node: Node) -> u8
+pub fn node_limits(parents: &[u8; 63], k: u8, node: Node) -> u8
     ensures { λ r. ⌜ r ≡ nodeLimits (now (parents .entry)) k node ⌝ }
 {
     if node.capacity == 0 {

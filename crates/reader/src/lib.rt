@@ -12,7 +12,7 @@ ghost use Rattle.reader.specs.Read.{Draft, nodeAt, flowAt, nodeFault, fa
 ghost use Rattle.reader.specs.Inner.{Known};
 
 // 4 and 7 for a NODE, then 5, 6 and 8.
-fn node_fault(links: u8, next: u8, parents: &[u8], node: Node) -> u8
+fn node_fault(links: u8, next: u8, parents: &[u8; 63], node: Node) -> u8
     ensures { λ r. ⌜ ((d : Draft) → Known d links next (now (parents .entry)) → r ≡ nodeFault d node) ⌝ }
 {
     if 0 < next {
@@ -50,7 +50,7 @@ fn flow_at(bytes: &[u8], at: usize) -> Flow
 }
 
 // The first check that the command at index `at` fails, 0 where it fails none. It is not END.
-fn fault_at<'a>(bytes: &'a [u8], at: usize, links: u8, next: u8, parents: &'a [u8]) -> u8
+fn fault_at<'a>(bytes: &'a [u8], at: usize, links: u8, next: u8, parents: &'a [u8; 63]) -> u8
     requires { ⌜ at < length (now bytes) ⌝ }
     ensures { λ r. ⌜ ((d : Draft) → Known d links next (now (parents .entry)) → r ≡ fault (now (bytes .entry)) at d) ⌝ }
 {

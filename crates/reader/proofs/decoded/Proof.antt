@@ -32,10 +32,10 @@ abbrev μ-loop : tie.MeasureT-loop
 
 -- A command whose checks are behind it, and the turn of the loop that it is read in.
 abbrev turn : tie.Else2 Inv-loop μ-loop → tie.At-loop Inv-loop μ-loop
-turn c = c .before .before .before .before .before .before .before .before
+turn c = c .before .before .before .before .before .before .before
 
 abbrev bytesOf : tie.Else2 Inv-loop μ-loop → List ℕ
-bytesOf c = c .before .before .before .before .before .before .before .before .before .before .before .args .bytes .now
+bytesOf c = c .before .before .before .before .before .before .before .before .before .before .args .bytes .now
 
 none : (c : tie.Else2 Inv-loop μ-loop) → fault (bytesOf c) (turn c .loop .at) (reading (turn c .loop .site) (turn c .loop .next)) ≡ 0
 none c = sym (c .before .fault-at .ensures _ (known _ _)) ∙ c .if2 .left
@@ -72,9 +72,9 @@ refusal-requires c κs = search needs
 returns-2 : tie.Need-returns-2 Inv-loop μ-loop
 returns-2 c = let judged = c .before .before in
     let is = judged .fault-at .ensures _ (known _ _) in
-    let turn = judged .before .before .before .before .before .before .before in
+    let turn = judged .before .before .before .before .before .before in
     c .refusal .ensures ∙ ap withSite (ap (λ (r : ℕ). refused r (turn .loop .at)) is
-    ∙ sym (decode-stop _ _ _ (omega arith) (judged .before .before .before .before .if1 .left) (λ z. c .before .if2 .taken (is ∙ z))) ∙ turn .loop .inv)
+    ∙ sym (decode-stop _ _ _ (omega arith) (judged .before .before .before .if1 .left) (λ z. c .before .if2 .taken (is ∙ z))) ∙ turn .loop .inv)
 
 shared-slice-read-if3 : tie.Need-shared-slice-read-if3 Inv-loop μ-loop
 shared-slice-read-if3 c = search needs
@@ -147,7 +147,7 @@ loop-less c = let w = moved c in omega arith
 loop-again : tie.Need-loop-again Inv-loop μ-loop
 unfolding nodeAdded withNode flowAdded withFlow
 loop-again c = let stay = c .before .before .before .before in
-    let other = stay .before .before .before .before .before .if1 .left in
+    let other = stay .before .before .before .before .if1 .left in
     rw (c .size .ensures) (elim (c .before .before .if3 .came) [
       | inl w ↦ rw (w .2, w .3) (decode-node _ _ _ (omega arith) other (none stay) (w .0 .taken) _ (w .1 .ensures) (turn stay .loop .inv))
       | inr w ↦ rw (w .4, w .5) (decode-flow _ _ _ (omega arith) other (none stay) (w .0 .left) _ (w .1 .ensures) (turn stay .loop .inv))
