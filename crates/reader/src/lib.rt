@@ -1,14 +1,13 @@
 // Reading a plan: one command after the other, then the judgement of the whole.
 use limits::Node;
 use schedule::Judged;
-use schedule::Verdict;
 use site::Flow;
 use site::Site;
 ghost use mathlib.Core.Path.{_≡_};
 ghost use Prim.Native.Nat.{_+_, _<_};
 ghost use lib.ListN.{length};
 ghost use Rattle.schedule.specs.Judge.{ruling, withSite};
-ghost use Rattle.reader.specs.Read.{Draft, nodeAt, flowAt, nodeFault, fault, endOf, decode, readOf};
+ghost use Rattle.reader.specs.Read.{Draft, nodeAt, flowAt, nodeFault, fault, endOf, judgeForm, readOf};
 ghost use Rattle.reader.specs.Inner.{Known};
 
 // 4 and 7 for a NODE, then 5, 6 and 8.
@@ -69,10 +68,10 @@ fn fault_at<'a>(bytes: &'a [u8], at: usize, links: u8, next: u8, parents: &'a [u
     limits::flow_limits(links, next, flow_at(bytes, at))
 }
 
-// END at index `at`.
+// END at index `at`: 9 and 10, then the judgement of the whole.
 fn end(size: usize, at: usize, site: Site) -> Judged
     requires { ⌜ at < size ⌝ }
-    ensures { λ r. ⌜ (ruling (r .verdict), r .site) ≡ withSite (endOf size at site) ⌝ }
+    ensures { λ r. ⌜ (ruling (r .verdict), r .site) ≡ withSite (judgeForm (endOf size at site)) ⌝ }
 {
     if site.links == 0 {
         return schedule::refusal(9, at);
@@ -80,15 +79,12 @@ fn end(size: usize, at: usize, site: Site) -> Judged
     if at + 1 < size {
         return schedule::refusal(10, at + 1);
     }
-    Judged {
-        verdict: Verdict::Accepted,
-        site,
-    }
+    schedule::judge(site)
 }
 
-// The nodes and flows that the bytes have, or the refusal of their form. `next` is the smallest number that a FLOW may still have, 0 before the first.
-fn decoded(bytes: &[u8]) -> Judged
-    ensures { λ r. ⌜ (ruling (r .verdict), r .site) ≡ withSite (decode (now (bytes .entry))) ⌝ }
+// The site that the bytes stand for, or a refusal with the empty site. `next` is the smallest number that a FLOW may still have, 0 before the first.
+pub fn read_plan(bytes: &[u8]) -> Judged
+    ensures { λ r. ⌜ (ruling (r .verdict), r .site) ≡ withSite (readOf (now (bytes .entry))) ⌝ }
 {
     let mut site = site::empty();
     let mut next: u8 = 0;
@@ -120,16 +116,4 @@ fn decoded(bytes: &[u8]) -> Judged
         at += format::size(bytes[at]);
     }
     schedule::refusal(2, bytes.len())
-}
-
-// The site that the bytes stand for, or a refusal with the empty site.
-pub fn read_plan(bytes: &[u8]) -> Judged
-    ensures { λ r. ⌜ (ruling (r .verdict), r .site) ≡ withSite (readOf (now (bytes .entry))) ⌝ }
-{
-    let form = decoded(bytes);
-    let verdict = form.verdict;
-    match verdict {
-        Verdict::Accepted => schedule::judge(form.site),
-        Verdict::Refused(_number, _place) => form,
-    }
 }

@@ -8,13 +8,13 @@ use borrow.Author.Tests.{lt-ltb, le-ltb, le-leb, lt-leb, eq-eqb, ne-eqb, ltb-fal
 use native.Mathlib.Omega.{arith}
 use Rattle.site.specs.declared.Site.{Site}
 use Rattle.site.specs.declared.Flow.{Flow}
-use Rattle.pinwheel.specs.Outcome.{Outcome, accepted, refused}
-use Rattle.schedule.specs.Judge.{withSite}
+use Rattle.pinwheel.specs.Outcome.{refused}
+use Rattle.schedule.specs.Judge.{withSite, judgeOf}
 use Rattle.format.specs.Commands.{sizeOf}
 use Rattle.format.proofs.Laws.{number-one, number-two}
 use Rattle.limits.specs.declared.Node.{Node}
 use Rattle.reader.specs.Read.{Draft, nodeAt, flowAt, nodeFault, flowFault}
-use Rattle.reader.specs.Read.{fault, endOf}
+use Rattle.reader.specs.Read.{fault, endOf, judgeForm}
 use Rattle.limits.proofs.Laws.Forms.{node-good, flow-good}
 use Rattle.limits.proofs.Laws.Tests.{passed}
 use Rattle.limits.specs.Words.{NodeGood}
@@ -91,14 +91,14 @@ module _ (bytes : List ℕ) (at : ℕ) (d : Draft) (m : ℕ) (is : m ≡ sizeOf 
 
 -- END at index `at`.
 module _ (size at : ℕ) (s : Site) where
-  pub end-bare : s .links ≡ 0 → withSite (refused 9 at) ≡ withSite (endOf size at s)
-  unfolding endOf
+  pub end-bare : s .links ≡ 0 → withSite (refused 9 at) ≡ withSite (judgeForm (endOf size at s))
+  unfolding endOf judgeForm
   end-bare e = ap withSite (simp (eq-eqb _ _ e))
 
-  pub end-more : (s .links ≡ 0 → ⊥) → at + 1 < size → withSite (refused 10 (at + 1)) ≡ withSite (endOf size at s)
-  unfolding endOf
+  pub end-more : (s .links ≡ 0 → ⊥) → at + 1 < size → withSite (refused 10 (at + 1)) ≡ withSite (judgeForm (endOf size at s))
+  unfolding endOf judgeForm
   end-more n l = ap withSite (simp (ne-eqb _ _ n, lt-ltb _ _ l))
 
-  pub end-last : (s .links ≡ 0 → ⊥) → size ≤ at + 1 → _≡_ {A = Outcome (Unit {0}) × Site} (accepted tt, s) (withSite (endOf size at s))
-  unfolding endOf withSite
-  end-last n l = simp (ne-eqb _ _ n, le-ltb _ _ l)
+  pub end-last : (s .links ≡ 0 → ⊥) → size ≤ at + 1 → withSite (judgeOf s) ≡ withSite (judgeForm (endOf size at s))
+  unfolding endOf judgeForm
+  end-last n l = ap withSite (simp (ne-eqb _ _ n, le-ltb _ _ l))

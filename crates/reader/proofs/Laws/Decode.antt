@@ -1,6 +1,6 @@
 -- The reading of commands without its count of steps: one law for each thing that can be met at an index.
 use Prim.Native.Nat.{ℕ, zero, suc, _+_, _<_, _≤_}
-use mathlib.Core.Path.{_≡_, refl, sym, _∙_, ap}
+use mathlib.Core.Path.{_≡_, refl, sym, _∙_}
 use mathlib.Core.Bool.{false, cond}
 use mathlib.Core.List.{List}
 use mathlib.Core.Logic.{_⊎_, inl, inr}
@@ -11,14 +11,12 @@ use native.Mathlib.Omega.{arith}
 use Rattle.site.specs.declared.Site.{Site}
 use Rattle.site.specs.declared.Flow.{Flow}
 use Rattle.limits.specs.declared.Node.{Node}
-use Rattle.pinwheel.specs.Outcome.{Outcome, accepted, refused}
-use Rattle.schedule.specs.Judge.{withSite, judgeOf}
+use Rattle.pinwheel.specs.Outcome.{Outcome, refused}
 use Rattle.site.proofs.Laws.Choices.{cond-same}
-use Rattle.schedule.proofs.Laws.Rulings.{site-accepted, site-refused}
 use Rattle.format.specs.Commands.{sizeOf}
 use Rattle.format.proofs.Laws.{size-node, size-flow, size-kinds}
 use Rattle.reader.specs.Read.{Draft, nodeAt, flowAt, nodeFault, flowFault, nodeAdded, flowAdded}
-use Rattle.reader.specs.Read.{fault, after, endOf, decodeFrom, decode, blank, judgeForm, readOf}
+use Rattle.reader.specs.Read.{fault, after, endOf, decodeFrom, decode, blank}
 use Rattle.limits.proofs.Laws.Tests.{passed}
 
 -- As many steps as there are bytes are enough from every index on.
@@ -118,14 +116,3 @@ module _ (bytes : List ℕ) where
       pub decode-flow : (getD bytes at 0 ≡ 1 → ⊥) → (f : Flow) → f ≡ flowAt bytes at → decodeOn bytes at d ≡ decode bytes
           → decodeOn bytes (at + sizeOf (getD bytes at 0)) (flowAdded d f) ≡ decode bytes
       decode-flow other f q i = rw (q, ← flow-none bytes at d e other .2) (sym decode-go ∙ i)
-
--- A form that is right is judged; one that is refused stays so.
-module _ (bytes : List ℕ) (r : Outcome (Unit {0})) (s : Site) (e : (r, s) ≡ withSite (decode bytes)) where
-  pub read-judged : r ≡ accepted tt → withSite (judgeOf s) ≡ withSite (readOf bytes)
-  unfolding readOf judgeForm
-  read-judged q = ap withSite (sym (ap judgeForm (site-accepted (decode bytes) s (rw q at e))))
-
-  pub read-refused : (number place : ℕ) → r ≡ refused number place → (r, s) ≡ withSite (readOf bytes)
-  unfolding readOf judgeForm
-  read-refused number place q =
-      let d = site-refused (decode bytes) s number place (rw q at e) in e ∙ ap withSite (d ∙ sym (ap judgeForm d))

@@ -1,4 +1,4 @@
--- Right because 9 is asked before 10, and the site goes on as it is where neither fails.
+-- Right because 9 is asked before 10, and the site is judged where neither fails.
 use borrow.Author.Needs.{needs}
 use mathlib.Core.Path.{_∙_}
 use Rattle.reader.proofs.Laws.Commands.{end-bare, end-more, end-last}
@@ -23,10 +23,13 @@ refusal-requires-2 c κs = search needs
 returns-2 : tie.Need-returns-2
 returns-2 c = c .refusal2 .ensures ∙ end-more _ _ _ (c .before .before .if1 .left) (c .before .if2 .taken)
 
+judge-requires : tie.Need-judge-requires
+judge-requires c κs = search needs
+
 returns-3 : tie.Need-returns-3
-returns-3 c = end-last _ _ _ (c .before .if1 .left) (c .if2 .left)
+returns-3 c = c .judge .ensures ∙ end-last _ _ _ (c .before .before .if1 .left) (c .before .if2 .left)
 
 pub end-spec : {M : Type 1} → statement M
 end-spec =
     tie.close
-    (tie.spec refusal-requires returns add-if2 add-refusal refusal-requires-2 returns-2 returns-3)
+    (tie.spec refusal-requires returns add-if2 add-refusal refusal-requires-2 returns-2 judge-requires returns-3)
