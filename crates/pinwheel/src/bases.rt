@@ -39,12 +39,15 @@ struct Figures {
     limit: u32,
 }
 
-// How often a child with this gap sends in `top` slots.
+// How often a child with this gap sends in `top` slots. Most children have the largest period or are few, so most need no division.
 fn share(top: u32, gap: u16, base: u16, factor: u16) -> u32
     requires { ⌜ (2 ≤ factor) × (1 ≤ base) × (base ≤ gap) ⌝ }
     ensures { λ r. ⌜ r ≡ top / period factor base gap ⌝ }
 {
     let p = period_of(gap, base, factor) as u32;
+    if p == top {
+        return 1;
+    }
     top / p
 }
 
