@@ -72,7 +72,7 @@ fn typical_plan() -> Vec<u8> {
 pub fn largest_plan() -> Vec<u8> {
     include_bytes!(concat!(
         env!("CARGO_MANIFEST_DIR"),
-        "/../crates/bench_plan/stdin"
+        "/plans/largest.plan"
     ))
     .to_vec()
 }
