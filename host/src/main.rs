@@ -33,6 +33,8 @@ mod rehearse_lines;
 mod rules;
 mod shrink;
 mod slots;
+#[cfg(test)]
+mod trust;
 mod watch;
 
 use std::path::Path;

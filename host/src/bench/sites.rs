@@ -70,11 +70,7 @@ fn typical_plan() -> Vec<u8> {
 
 /// Eight nodes under the root with eight or seven children each, and 64 flows.
 pub fn largest_plan() -> Vec<u8> {
-    include_bytes!(concat!(
-        env!("CARGO_MANIFEST_DIR"),
-        "/plans/largest.plan"
-    ))
-    .to_vec()
+    include_bytes!(concat!(env!("CARGO_MANIFEST_DIR"), "/plans/largest.plan")).to_vec()
 }
 
 pub fn plan_of(nodes: &[Vec<u8>], flows: &[Vec<u8>]) -> Vec<u8> {
