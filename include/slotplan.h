@@ -16,6 +16,9 @@
  * count elements, not bytes.  Everything else is tested: any bytes, numbers and lengths may be
  * handed in, and a call ends and answers.
  *
+ * Units: counters and arrivals are packets, capacities and rates packets a slot; gaps, periods,
+ * offsets, deadlines and bounds are slots.
+ *
  * Each function lists its checks in their order.  The first that fails refuses the call, with its
  * number and a place; then all memory is as it was before.  The numbers are those of document 01:
  *

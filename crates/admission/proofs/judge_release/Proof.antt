@@ -4,8 +4,6 @@ use Rattle.admission.specs.Calls.{releaseRuling}
 use Rattle.admission.proofs.Laws.Answers.{call-fails, call-passes}
 use Rattle.admission.proofs.judge_release.Statement.{statement}
 use Rattle.admission.proofs.judge_release.Tie as tie
-use Rattle.admission.proofs.judge_number.Reads as judge-number-reads
-use Rattle.limits.proofs.call_fault.Reads as call-fault-reads
 
 call-fault-requires : tie.Need-call-fault-requires
 call-fault-requires c κs = search needs

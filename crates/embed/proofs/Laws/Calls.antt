@@ -6,7 +6,7 @@ use mathlib.Core.List.{List}
 use lib.ListN.{length}
 use borrow.Author.Tests.{le-leb, eq-eqb, ne-eqb}
 use native.Mathlib.Omega.{arith}
-use Rattle.pinwheel.specs.Outcome.{Outcome, accepted, refused, settled}
+use Rattle.pinwheel.specs.Outcome.{Outcome, Ruling, accepted, refused, checked, settled}
 use Rattle.site.specs.declared.Site.{Site}
 use Rattle.site.specs.declared.Flow.{Flow}
 use Rattle.site.specs.Sites.{withFlow, withoutFlow, withSchedule}
@@ -25,7 +25,7 @@ use Rattle.writer.proofs.Laws.{plain-writing}
 use Rattle.plan.proofs.Laws.{passes-when}
 use Rattle.plan.proofs.Laws.Acceptance.{read-form}
 use Rattle.plan.proofs.Laws.Near.{read-near}
-use Rattle.admission.specs.Calls.{change, flowRuling, admitRuling, admitOf, numberRuling, releaseRuling, releaseOf}
+use Rattle.admission.specs.Calls.{change, flowRuling, admitRuling, numberRuling, releaseRuling}
 use Rattle.admission.proofs.Laws.{admits-when, releases-when, admitted-passes}
 use Rattle.admission.proofs.Laws.Answers.{call-passes}
 use Rattle.simulation.specs.Sender.{senderOf, lookupOf}
@@ -99,53 +99,31 @@ module _ (s : Site) (w : Standing s) where
     unfolding answered valued
     stands-started ds e = ap answered (start-passes s cs 0 (sym unfaulted) refl ds e counted)
 
-    -- An admission: what its own checks say is what the whole call says.
-    module _ (f : Flow) where
-      admit-ruled : admitRuling s cs f ≡ flowRuling s f
-      unfolding admitRuling
-      admit-ruled = sym (call-passes s cs 0 (sym unfaulted) (flowRuling s f) refl (flowRuling s f) refl)
+    -- 1 and 14 are passed, so the checks behind them rule the call.
+    pub stands-ruled : (others : Ruling) → checked (callFault s cs) others ≡ others
+    stands-ruled others = sym (call-passes s cs 0 (sym unfaulted) others refl others refl)
 
-      pub admit-no : (out : List ℕ) (number place : ℕ) → refused number place ≡ flowRuling s f
-          → (refused number place, cs, out) ≡ rewritten (admitOf s cs f) cs out
-      unfolding admitOf change settled rewritten
-      admit-no out number place e = rw (admit-ruled, ← e)
+    pub admit-standing : (f : Flow) → accepted tt ≡ flowRuling s f → (f .number < 64) × Standing (withFlow s f)
+    unfolding admitRuling withFlow
+    admit-standing f e =
+        let a = admits-when s cs f .0 (stands-ruled _ ∙ sym e) in
+        (omega (arith, a .good .within .number-most), record { sound = admitted-passes s cs f a; some = w .some })
 
-      module _ (e : accepted tt ≡ flowRuling s f) where
-        pub admit-number : f .number < 64
-        admit-number = let w = admits-when s cs f .0 (admit-ruled ∙ sym e) in omega (arith, w .good .within .number-most)
+    pub release-standing : (n : ℕ) → accepted tt ≡ numberRuling s n → (n < 64) × Standing (withoutFlow s n)
+    unfolding releaseRuling withoutFlow
+    release-standing n e =
+        let a = releases-when s cs n .0 (stands-ruled _ ∙ sym e) in
+        (omega (arith, a .few), record { sound = flow-taken s (w .sound) n; some = w .some })
 
-        pub admit-standing : Standing (withFlow s f)
-        unfolding withFlow
-        admit-standing = record { sound = admitted-passes s cs f (admits-when s cs f .0 (admit-ruled ∙ sym e)); some = w .some }
+-- A change and its new bytes, by its own checks: `q` is what they say, and `r` the ruling of the whole call.
+module _ (s next : Site) (cs new out : List ℕ) (r q : Ruling) (same : r ≡ q) where
+  pub change-no : (number place : ℕ) → refused number place ≡ q → (refused number place, cs, out) ≡ rewritten (change r next s new cs) cs out
+  unfolding change settled rewritten
+  change-no number place e = rw (same, ← e)
 
-        pub admit-yes : (out : List ℕ)
-            → stored (writtenIf (withFlow s f) (planBytes (withFlow s f)) out) (withCells (f .number) (zeros 9) cs) cs ≡ rewritten (admitOf s cs f) cs out
-        unfolding admitOf change settled rewritten
-        admit-yes out = rw (admit-ruled, ← e)
-
-    -- A release likewise.
-    module _ (n : ℕ) where
-      release-ruled : releaseRuling s cs n ≡ numberRuling s n
-      unfolding releaseRuling
-      release-ruled = sym (call-passes s cs 0 (sym unfaulted) (numberRuling s n) refl (numberRuling s n) refl)
-
-      pub release-no : (out : List ℕ) (number place : ℕ) → refused number place ≡ numberRuling s n
-          → (refused number place, cs, out) ≡ rewritten (releaseOf s cs n) cs out
-      unfolding releaseOf change settled rewritten
-      release-no out number place e = rw (release-ruled, ← e)
-
-      module _ (e : accepted tt ≡ numberRuling s n) where
-        pub release-number : n < 64
-        release-number = let w = releases-when s cs n .0 (release-ruled ∙ sym e) in omega (arith, w .few)
-
-        pub release-standing : Standing (withoutFlow s n)
-        unfolding withoutFlow
-        release-standing = record { sound = flow-taken s (w .sound) n; some = w .some }
-
-        pub release-yes : (out : List ℕ)
-            → stored (writtenIf (withoutFlow s n) (planBytes (withoutFlow s n)) out) (withCells n (zeros 9) cs) cs ≡ rewritten (releaseOf s cs n) cs out
-        unfolding releaseOf change settled rewritten
-        release-yes out = rw (release-ruled, ← e)
+  pub change-yes : accepted tt ≡ q → stored (writtenIf next (planBytes next) out) new cs ≡ rewritten (change r next s new cs) cs out
+  unfolding change settled rewritten
+  change-yes e = rw (same, ← e)
 
 -- What is left by the writing: `a` is what it comes to.
 module _ (a : Outcome ℕ × List ℕ) (bytes cs : List ℕ) where

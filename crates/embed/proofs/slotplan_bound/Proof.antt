@@ -5,9 +5,6 @@ use Rattle.embed.specs.Calls.{boundFrom}
 use Rattle.embed.proofs.Laws.Calls.{on-yes, on-no}
 use Rattle.embed.proofs.slotplan_bound.Statement.{statement}
 use Rattle.embed.proofs.slotplan_bound.Tie as tie
-use Rattle.embed.proofs.answers.bound_of.Reads as bound-of-reads
-use Rattle.embed.proofs.answers.refusal.Reads as refusal-reads
-use Rattle.reader.proofs.read_plan.Reads as read-plan-reads
 
 read-plan-requires : tie.Need-read-plan-requires
 read-plan-requires c κs = search needs

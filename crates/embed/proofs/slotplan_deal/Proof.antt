@@ -3,8 +3,6 @@ use borrow.Author.Needs.{needs}
 use Rattle.embed.proofs.Laws.Told.{dealt-tellable}
 use Rattle.embed.proofs.slotplan_deal.Statement.{statement}
 use Rattle.embed.proofs.slotplan_deal.Tie as tie
-use Rattle.embed.proofs.answers.base.Reads as base-reads
-use Rattle.pinwheel.proofs.deal.Reads as deal-reads
 
 deal-requires : tie.Need-deal-requires
 deal-requires c κs = search needs

@@ -6,9 +6,6 @@ use Rattle.embed.specs.Calls.{markOf}
 use Rattle.embed.proofs.Laws.Calls.{read-close, by-yes, by-no}
 use Rattle.embed.proofs.slotplan_mark.Statement.{statement}
 use Rattle.embed.proofs.slotplan_mark.Tie as tie
-use Rattle.embed.proofs.answers.refusal.Reads as refusal-reads
-use Rattle.embed.proofs.answers.sizes.Reads as sizes-reads
-use Rattle.reader.proofs.read_plan.Reads as read-plan-reads
 
 read-plan-requires : tie.Need-read-plan-requires
 read-plan-requires c κs = search needs

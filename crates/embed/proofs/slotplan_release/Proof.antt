@@ -6,9 +6,6 @@ use Rattle.embed.specs.Calls.{releaseFrom}
 use Rattle.embed.proofs.Laws.Calls.{read-standing, read-yes, on-yes, on-no, of-length, off-length}
 use Rattle.embed.proofs.slotplan_release.Statement.{statement}
 use Rattle.embed.proofs.slotplan_release.Tie as tie
-use Rattle.embed.proofs.answers.refusal.Reads as refusal-reads
-use Rattle.embed.proofs.changes.released.Reads as released-reads
-use Rattle.reader.proofs.read_plan.Reads as read-plan-reads
 
 refusal-requires : tie.Need-refusal-requires
 refusal-requires c κs = search needs

@@ -6,9 +6,6 @@ use Rattle.embed.specs.Calls.{scheduleFrom}
 use Rattle.embed.proofs.Laws.Calls.{read-standing, read-yes, read-close, by-yes, by-no}
 use Rattle.embed.proofs.slotplan_schedule.Statement.{statement}
 use Rattle.embed.proofs.slotplan_schedule.Tie as tie
-use Rattle.embed.proofs.answers.refusal.Reads as refusal-reads
-use Rattle.embed.proofs.changes.schedule_of.Reads as schedule-of-reads
-use Rattle.reader.proofs.read_plan.Reads as read-plan-reads
 
 read-plan-requires : tie.Need-read-plan-requires
 read-plan-requires c κs = search needs

@@ -7,10 +7,6 @@ use Rattle.embed.proofs.Laws.Calls.{read-standing, read-yes, on-yes, on
 use Rattle.embed.proofs.Laws.Told.{lookup-tellable}
 use Rattle.embed.proofs.slotplan_sender.Statement.{statement}
 use Rattle.embed.proofs.slotplan_sender.Tie as tie
-use Rattle.embed.proofs.answers.child.Reads as child-reads
-use Rattle.embed.proofs.answers.refusal.Reads as refusal-reads
-use Rattle.reader.proofs.read_plan.Reads as read-plan-reads
-use Rattle.simulation.proofs.look_up.Reads as look-up-reads
 
 read-plan-requires : tie.Need-read-plan-requires
 read-plan-requires c κs = search needs

@@ -7,10 +7,6 @@ use Rattle.embed.proofs.Laws.Calls.{read-standing, read-yes, on-yes, on
 use Rattle.embed.proofs.Laws.Told.{advanced-tellable}
 use Rattle.embed.proofs.slotplan_slot.Statement.{statement}
 use Rattle.embed.proofs.slotplan_slot.Tie as tie
-use Rattle.embed.proofs.answers.refusal.Reads as refusal-reads
-use Rattle.embed.proofs.answers.ruled.Reads as ruled-reads
-use Rattle.reader.proofs.read_plan.Reads as read-plan-reads
-use Rattle.simulation.proofs.advance.Reads as advance-reads
 
 refusal-requires : tie.Need-refusal-requires
 refusal-requires c κs = search needs

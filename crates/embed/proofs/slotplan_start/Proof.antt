@@ -7,9 +7,6 @@ use Rattle.embed.proofs.Laws.Calls.{read-standing, read-yes, on-yes, on
 use Rattle.embed.proofs.Laws.Told.{told-value}
 use Rattle.embed.proofs.slotplan_start.Statement.{statement}
 use Rattle.embed.proofs.slotplan_start.Tie as tie
-use Rattle.counters.proofs.clear.Reads as clear-reads
-use Rattle.embed.proofs.answers.refusal.Reads as refusal-reads
-use Rattle.reader.proofs.read_plan.Reads as read-plan-reads
 
 refusal-requires : tie.Need-refusal-requires
 refusal-requires c κs = search needs

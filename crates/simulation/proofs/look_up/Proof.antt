@@ -3,7 +3,6 @@ use borrow.Author.Needs.{needs}
 use Rattle.simulation.proofs.Laws.Answers.{lookup-parent, lookup-found}
 use Rattle.simulation.proofs.look_up.Statement.{statement}
 use Rattle.simulation.proofs.look_up.Tie as tie
-use Rattle.simulation.proofs.sending_child.Reads as sending-child-reads
 
 returns : tie.Need-returns
 returns c = lookup-parent _ _ _ (search needs)

@@ -3,8 +3,6 @@ use borrow.Author.Needs.{needs}
 use Rattle.simulation.proofs.Laws.Answers.{sender-site, sender-passes}
 use Rattle.simulation.proofs.sender.Statement.{statement}
 use Rattle.simulation.proofs.sender.Tie as tie
-use Rattle.limits.proofs.passes.Reads as passes-reads
-use Rattle.simulation.proofs.look_up.Reads as look-up-reads
 
 passes-requires : tie.Need-passes-requires
 passes-requires c κs = search needs

@@ -6,8 +6,6 @@ use Rattle.simulation.proofs.Laws.{slot-advances}
 use Rattle.simulation.proofs.Laws.Answers.{slot-unlisted, slot-call}
 use Rattle.simulation.proofs.slot.Statement.{statement}
 use Rattle.simulation.proofs.slot.Tie as tie
-use Rattle.limits.proofs.call_fault.Reads as call-fault-reads
-use Rattle.simulation.proofs.advance.Reads as advance-reads
 
 returns : tie.Need-returns
 returns c = slot-unlisted _ _ _ _ _ (c .if1 .taken)

@@ -3,7 +3,6 @@ use borrow.Author.Needs.{needs}
 use Rattle.writer.proofs.Laws.Write.{encoded-many, encoded-few}
 use Rattle.writer.proofs.encode_schedule.Statement.{statement}
 use Rattle.writer.proofs.encode_schedule.Tie as tie
-use Rattle.writer.proofs.put_schedule.Reads as put-schedule-reads
 
 returns : tie.Need-returns
 returns c = encoded-many _ _ _ (search needs)

@@ -3,8 +3,6 @@ use borrow.Author.Needs.{needs}
 use Rattle.writer.proofs.Laws.Write.{written-faulty, written-well}
 use Rattle.writer.proofs.write_plan.Statement.{statement}
 use Rattle.writer.proofs.write_plan.Tie as tie
-use Rattle.writer.proofs.encode_plan.Reads as encode-plan-reads
-use Rattle.writer.proofs.site_fault.Reads as site-fault-reads
 
 site-fault-requires : tie.Need-site-fault-requires
 site-fault-requires c κs = search needs

@@ -3,8 +3,6 @@ use borrow.Author.Needs.{needs}
 use Rattle.writer.proofs.Laws.Write.{written-faulty, written-well}
 use Rattle.writer.proofs.write_schedule.Statement.{statement}
 use Rattle.writer.proofs.write_schedule.Tie as tie
-use Rattle.writer.proofs.encode_schedule.Reads as encode-schedule-reads
-use Rattle.writer.proofs.site_fault.Reads as site-fault-reads
 
 site-fault-requires : tie.Need-site-fault-requires
 site-fault-requires c κs = search needs

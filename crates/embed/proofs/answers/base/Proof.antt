@@ -6,7 +6,6 @@ use Rattle.embed.proofs.Laws.Told.{told-value}
 use native.Mathlib.Omega.{arith}
 use Rattle.embed.proofs.answers.base.Statement.{statement}
 use Rattle.embed.proofs.answers.base.Tie as tie
-use Rattle.embed.proofs.answers.refusal.Reads as refusal-reads
 
 enum-known-answer : tie.Need-enum-known-answer
 enum-known-answer c = search needs

@@ -8,9 +8,6 @@ use Rattle.embed.proofs.Laws.Told.{told-value, number-tellable}
 use native.Mathlib.Omega.{arith}
 use Rattle.embed.proofs.answers.bound_of.Statement.{statement}
 use Rattle.embed.proofs.answers.bound_of.Tie as tie
-use Rattle.admission.proofs.judge_number.Reads as judge-number-reads
-use Rattle.embed.proofs.answers.refusal.Reads as refusal-reads
-use Rattle.site.proofs.delay_bound.Reads as delay-bound-reads
 
 judge-number-requires : tie.Need-judge-number-requires
 judge-number-requires c κs = search needs

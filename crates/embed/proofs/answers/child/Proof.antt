@@ -6,7 +6,6 @@ use Rattle.embed.proofs.Laws.Told.{told-value}
 use native.Mathlib.Omega.{arith}
 use Rattle.embed.proofs.answers.child.Statement.{statement}
 use Rattle.embed.proofs.answers.child.Tie as tie
-use Rattle.embed.proofs.answers.refusal.Reads as refusal-reads
 
 enum-known-lookup : tie.Need-enum-known-lookup
 enum-known-lookup c = search needs

@@ -7,7 +7,6 @@ use Rattle.embed.proofs.Laws.Told.{told-value}
 use native.Mathlib.Omega.{arith}
 use Rattle.embed.proofs.answers.ruled.Statement.{statement}
 use Rattle.embed.proofs.answers.ruled.Tie as tie
-use Rattle.embed.proofs.answers.refusal.Reads as refusal-reads
 
 enum-told : tie.Need-enum-told
 enum-told c = search needs

@@ -6,7 +6,6 @@ use Rattle.embed.proofs.Laws.Told.{told-value}
 use native.Mathlib.Omega.{arith}
 use Rattle.embed.proofs.answers.size.Statement.{statement}
 use Rattle.embed.proofs.answers.size.Tie as tie
-use Rattle.embed.proofs.answers.refusal.Reads as refusal-reads
 
 enum-known-written : tie.Need-enum-known-written
 enum-known-written c = search needs

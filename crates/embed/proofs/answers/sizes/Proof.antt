@@ -4,7 +4,6 @@ use native.Mathlib.Omega.{arith}
 use Rattle.embed.proofs.Laws.Told.{told-value}
 use Rattle.embed.proofs.answers.sizes.Statement.{statement}
 use Rattle.embed.proofs.answers.sizes.Tie as tie
-use Rattle.embed.proofs.answers.flow_count.Reads as flow-count-reads
 
 flow-count-requires : tie.Need-flow-count-requires
 flow-count-requires c κs = search needs

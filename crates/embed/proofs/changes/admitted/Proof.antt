@@ -3,14 +3,11 @@ use borrow.Author.Needs.{needs}
 use mathlib.Core.Path.{sym, _∙_, ap}
 use native.Mathlib.Omega.{arith}
 use Rattle.schedule.specs.Judge.{ruling}
-use Rattle.embed.proofs.Laws.Calls.{admit-no, admit-number, admit-standing, admit-yes}
+use Rattle.admission.specs.Calls.{admitOf, admitRuling}
+use Rattle.embed.proofs.Laws.Calls.{stands-ruled, admit-standing, change-no, change-yes}
 use Rattle.embed.proofs.Laws.Told.{flow-tellable}
 use Rattle.embed.proofs.changes.admitted.Statement.{statement}
 use Rattle.embed.proofs.changes.admitted.Tie as tie
-use Rattle.admission.proofs.judge_flow.Reads as judge-flow-reads
-use Rattle.embed.proofs.answers.refusal.Reads as refusal-reads
-use Rattle.embed.proofs.changes.rewrite.Reads as rewrite-reads
-use Rattle.site.proofs.with_flow.Reads as with-flow-reads
 
 judge-flow-requires : tie.Need-judge-flow-requires
 judge-flow-requires c κs = search needs
@@ -24,7 +21,8 @@ with-flow-requires c κs = search needs
 rewrite-requires : tie.Need-rewrite-requires
 rewrite-requires c κs = let start = c .before .before .before .before .before .before .before .before in
     let yes = sym (ap ruling (c .before .before .before .enum-told .given .1)) ∙ c .before .before .before .before .before .judge-flow .ensures in
-    (rw (c .before .before .with-flow .ensures) (admit-standing _ (start .pre .0) (start .args .counters .now) (start .pre .1) _ yes), start .pre .1, admit-number _ (start .pre .0) (start .args .counters .now) (start .pre .1) _ yes)
+    let next = admit-standing _ (start .pre .0) (start .args .counters .now) (start .pre .1) _ yes in
+    (rw (c .before .before .with-flow .ensures) (next .1), start .pre .1, next .0)
 
 enum-known-verdict : tie.Need-enum-known-verdict
 enum-known-verdict c = search needs
@@ -39,12 +37,14 @@ same-length-2 : tie.Need-same-length-2
 same-length-2 c = search needs
 
 returns : tie.Need-returns
+unfolding admitOf admitRuling
 returns c = let start = c .before .before .before .before .before .before .before .before .before .before .before .before .before in
     let yes = sym (ap ruling (c .before .before .before .before .before .before .before .before .enum-told .given .1)) ∙ c .before .before .before .before .before .before .before .before .before .before .judge-flow .ensures in
-    rw (c .before .before .before .before .before .before .before .with-flow .ensures) at (c .before .before .before .before .rewrite .ensures) ∙ admit-yes _ (start .pre .0) _ (start .pre .1) _ yes _
+    rw (c .before .before .before .before .before .before .before .with-flow .ensures) at (c .before .before .before .before .rewrite .ensures) ∙ change-yes _ _ _ _ _ _ _ (stands-ruled _ (start .pre .0) _ (start .pre .1) _) yes
 
 returns-2 : tie.Need-returns-2
-returns-2 c = rw (c .refusal .ensures) (admit-no _ (c .before .before .before .before .before .before .before .pre .0) _ (c .before .before .before .before .before .before .before .pre .1) _ _ _ _ (sym (ap ruling (c .before .before .verdict .given .1)) ∙ c .before .before .before .before .judge-flow .ensures))
+unfolding admitOf admitRuling
+returns-2 c = rw (c .refusal .ensures) (change-no _ _ _ _ _ _ _ (stands-ruled _ (c .before .before .before .before .before .before .before .pre .0) _ (c .before .before .before .before .before .before .before .pre .1) _) _ _ (sym (ap ruling (c .before .before .verdict .given .1)) ∙ c .before .before .before .before .judge-flow .ensures))
 
 pub admitted-spec : {M : Type 1} → statement M
 admitted-spec =

@@ -3,14 +3,11 @@ use borrow.Author.Needs.{needs}
 use mathlib.Core.Path.{sym, _∙_, ap}
 use native.Mathlib.Omega.{arith}
 use Rattle.schedule.specs.Judge.{ruling}
-use Rattle.embed.proofs.Laws.Calls.{release-no, release-number, release-standing, release-yes}
+use Rattle.admission.specs.Calls.{releaseOf, releaseRuling}
+use Rattle.embed.proofs.Laws.Calls.{stands-ruled, release-standing, change-no, change-yes}
 use Rattle.embed.proofs.Laws.Told.{number-tellable}
 use Rattle.embed.proofs.changes.released.Statement.{statement}
 use Rattle.embed.proofs.changes.released.Tie as tie
-use Rattle.admission.proofs.judge_number.Reads as judge-number-reads
-use Rattle.embed.proofs.answers.refusal.Reads as refusal-reads
-use Rattle.embed.proofs.changes.rewrite.Reads as rewrite-reads
-use Rattle.site.proofs.without_flow.Reads as without-flow-reads
 
 judge-number-requires : tie.Need-judge-number-requires
 judge-number-requires c κs = search needs
@@ -24,7 +21,8 @@ without-flow-requires c κs = search needs
 rewrite-requires : tie.Need-rewrite-requires
 rewrite-requires c κs = let start = c .before .before .before .before .before .before .before .before in
     let yes = sym (ap ruling (c .before .before .before .enum-told .given .1)) ∙ c .before .before .before .before .before .judge-number .ensures in
-    (rw (c .before .before .without-flow .ensures) (release-standing _ (start .pre .0) (start .args .counters .now) (start .pre .1) _ yes), start .pre .1, release-number _ (start .pre .0) (start .args .counters .now) (start .pre .1) _ yes)
+    let next = release-standing _ (start .pre .0) (start .args .counters .now) (start .pre .1) _ yes in
+    (rw (c .before .before .without-flow .ensures) (next .1), start .pre .1, next .0)
 
 enum-known-verdict : tie.Need-enum-known-verdict
 enum-known-verdict c = search needs
@@ -39,12 +37,14 @@ same-length-2 : tie.Need-same-length-2
 same-length-2 c = search needs
 
 returns : tie.Need-returns
+unfolding releaseOf releaseRuling
 returns c = let start = c .before .before .before .before .before .before .before .before .before .before .before .before .before in
     let yes = sym (ap ruling (c .before .before .before .before .before .before .before .before .enum-told .given .1)) ∙ c .before .before .before .before .before .before .before .before .before .before .judge-number .ensures in
-    rw (c .before .before .before .before .before .before .before .without-flow .ensures) at (c .before .before .before .before .rewrite .ensures) ∙ release-yes _ (start .pre .0) _ (start .pre .1) _ yes _
+    rw (c .before .before .before .before .before .before .before .without-flow .ensures) at (c .before .before .before .before .rewrite .ensures) ∙ change-yes _ _ _ _ _ _ _ (stands-ruled _ (start .pre .0) _ (start .pre .1) _) yes
 
 returns-2 : tie.Need-returns-2
-returns-2 c = rw (c .refusal .ensures) (release-no _ (c .before .before .before .before .before .before .before .pre .0) _ (c .before .before .before .before .before .before .before .pre .1) _ _ _ _ (sym (ap ruling (c .before .before .verdict .given .1)) ∙ c .before .before .before .before .judge-number .ensures))
+unfolding releaseOf releaseRuling
+returns-2 c = rw (c .refusal .ensures) (change-no _ _ _ _ _ _ _ (stands-ruled _ (c .before .before .before .before .before .before .before .pre .0) _ (c .before .before .before .before .before .before .before .pre .1) _) _ _ (sym (ap ruling (c .before .before .verdict .given .1)) ∙ c .before .before .before .before .judge-number .ensures))
 
 pub released-spec : {M : Type 1} → statement M
 released-spec =

@@ -7,9 +7,6 @@ use Rattle.embed.proofs.Laws.Calls.{stands-written, stored-yes, stored-
 use Rattle.embed.proofs.Laws.Told.{told-value, fitting, plan-few}
 use Rattle.embed.proofs.changes.rewrite.Statement.{statement}
 use Rattle.embed.proofs.changes.rewrite.Tie as tie
-use Rattle.counters.proofs.clear_flow.Reads as clear-flow-reads
-use Rattle.embed.proofs.answers.refusal.Reads as refusal-reads
-use Rattle.writer.proofs.encode_plan.Reads as encode-plan-reads
 
 encode-plan-requires : tie.Need-encode-plan-requires
 encode-plan-requires c κs = search needs

@@ -5,8 +5,6 @@ use Rattle.embed.proofs.Laws.Calls.{stands-written}
 use Rattle.embed.proofs.Laws.Told.{fitting, schedule-few}
 use Rattle.embed.proofs.changes.schedule_of.Statement.{statement}
 use Rattle.embed.proofs.changes.schedule_of.Tie as tie
-use Rattle.embed.proofs.answers.size.Reads as size-reads
-use Rattle.writer.proofs.encode_schedule.Reads as encode-schedule-reads
 
 encode-schedule-requires : tie.Need-encode-schedule-requires
 encode-schedule-requires c κs = search needs
