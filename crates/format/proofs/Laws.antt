@@ -1,4 +1,6 @@
--- What is proved of bytes: a number of any width is read back from its bytes, and bytes are written back from their number.
+-- What is proved of bytes: a number of any width is read back from its bytes, and bytes are written back from their number. The module named here has the reading
+-- of commands.
+pub mod Reading
 use Prim.Native.Nat.{ℕ, zero, suc, _+_, _-_, _*_, _/_, _%_, _^_, _<_, _≤_}
 use mathlib.Core.Path.{_≡_, refl, sym, _∙_, ap}
 use mathlib.Core.Bool.{Bool, true, false, cond}
@@ -94,6 +96,22 @@ module _ (tag : ℕ) where
   pub size-no-link : (tag ≡ 17 → ⊥) → 0 ≡ scheduleSize tag
   unfolding scheduleSize
   size-no-link n = simp (ne-eqb _ _ n)
+
+  -- A byte that is a command of a schedule is that of a LINK.
+  pub size-kind : (scheduleSize tag ≡ 0 → ⊥) → tag ≡ 17
+  size-kind n = elim (ℕ-discrete tag 17) [ yes e ↦ e | no m ↦ absurd (n (sym (size-no-link m))) ]
+
+  -- Where m is the size of a command that is known.
+  pub size-is-link : (m : ℕ) → m ≡ scheduleSize tag → (m ≡ 0 → ⊥) → m ≡ 6
+  size-is-link m is some = is ∙ sym (size-link (size-kind (λ z. some (is ∙ z))))
+
+  pub link-most : scheduleSize tag ≤ 6
+  unfolding scheduleSize
+  link-most = go (eqb tag 17)
+    where
+      go : (t : Bool) → cond t 6 0 ≤ 6
+      go true = omega arith
+      go false = omega arith
 
   -- No command has more than six bytes.
   pub size-most : sizeOf tag ≤ 6

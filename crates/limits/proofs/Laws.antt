@@ -1,6 +1,5 @@
 -- What is proved of check 14: what a site is that passes it, what a call asks of it, what its slots and routes have, and that flows may come and go. The modules named
 -- here hold the lemmas.
-pub mod Tests
 pub mod Forms
 pub mod Limits
 pub mod Check
@@ -30,7 +29,7 @@ use Rattle.site.proofs.Laws.Tree.{route-leads, route-falls}
 use Rattle.limits.specs.Limits.{badFlow, misplaced, flowLimits}
 use Rattle.limits.specs.Check.{flowOf, passesOf, callFault}
 use Rattle.limits.specs.Words.{FlowGood, Sound, siteChecks, callChecks, flowChecks}
-use Rattle.limits.proofs.Laws.Tests.{passed, fails-when, not-when}
+use Rattle.pinwheel.proofs.Laws.Choices.{passed, fails-when, not-when}
 use Rattle.limits.proofs.Laws.Forms.{flow-within}
 use Rattle.limits.proofs.Laws.Passing.{judged-when, passes-parts}
 use Rattle.limits.proofs.Laws.Flows.{live-few, live-fits, parent-below, route-short, without-none, without-with}

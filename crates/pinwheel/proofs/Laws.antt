@@ -1,4 +1,5 @@
 -- What the definitions of the slot rule mean, in the order of 01's rules and for every factor from 2 up. The modules named here hold the lemmas.
+pub mod Choices
 pub mod Outcomes
 pub mod Search
 pub mod Lists

@@ -33,7 +33,7 @@ use Rattle.limits.proofs.Laws.Empty.{empty-passes, linkless-empty}
 use Rattle.format.specs.Commands.{sizeOf}
 use Rattle.format.specs.Words.{Bytes}
 use Rattle.reader.specs.Read.{readOf}
-use Rattle.writer.specs.Write.{planBytes, written, siteFault, writtenIf}
+use Rattle.writer.specs.Write.{planBytes, written, handedFault, writtenUnless, writtenIf}
 use Rattle.writer.proofs.Laws.Write.{plan-size, nodes-few, flows-few}
 use Rattle.plan.specs.Words.{InForm, FormFails}
 use Rattle.plan.proofs.Laws.Small.{plan-small}
@@ -103,7 +103,7 @@ written-read s e some = let w = passes-parts s .0 e in (plan-small s (w .0), rea
 -- The operation writes these bytes, at most 763, and leaves the rest of the slice.
 pub plan-written : (s : Site) (out : List ℕ) → passesOf s ≡ true → 1 ≤ s .links → length (planBytes s) ≤ length out
     → writtenIf s (planBytes s) out ≡ (accepted (length (planBytes s)), planBytes s ++ drop (length (planBytes s)) out)
-unfolding siteFault writtenIf written
+unfolding handedFault writtenUnless written
 plan-written s out e some room = simp (e, ne-eqb (s .links) 0 (omega arith), le-ltb _ _ room)
 
 pub plan-short : (s : Site) → passesOf s ≡ true → length (planBytes s) ≤ 763

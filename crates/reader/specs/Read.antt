@@ -1,5 +1,5 @@
 -- 01, Plan bytes, and the checks of a reading in their order: what any bytes read to.
-use Prim.Native.Nat.{ℕ, zero, suc, _+_}
+use Prim.Native.Nat.{ℕ, _+_}
 use mathlib.Core.Bool.{cond}
 use mathlib.Core.List.{List}
 use lib.Dec.{eqb, ltb, leb}
@@ -13,6 +13,7 @@ use Rattle.limits.specs.declared.Node.{Node}
 use Rattle.limits.specs.Limits.{nodeLimits, flowLimits}
 use Rattle.format.specs.Bytes.{numberAt}
 use Rattle.format.specs.Commands.{sizeOf}
+use Rattle.format.specs.Reading.{Kind, faultOf, ended, readFrom}
 
 -- What has been read: nodes and flows, and the smallest number that a FLOW may still have, 0 before the first.
 pub record Draft : Type 0 where
@@ -40,13 +41,9 @@ nodeFault d n = cond (ltb 0 (d .next)) 4 (cond (leb 63 (d .site .links)) 7 (node
 unfoldable pub flowFault : Draft → Flow → ℕ
 flowFault d f = flowLimits (d .site .links) (d .next) f
 
--- 01, the order of a command's checks: the number of the first that the one at index `at` fails, 0 where it fails none. 3 where a plan has no such
--- command, 2 where not all of its bytes are there, and then those of a NODE or of a FLOW.
-unfoldable pub fault : List ℕ → ℕ → Draft → ℕ
-fault bytes at d =
-    cond (eqb (sizeOf (getD bytes at 0)) 0) 3
-    (cond (ltb (length bytes) (at + sizeOf (getD bytes at 0))) 2
-    (cond (eqb (getD bytes at 0) 1) (nodeFault d (nodeAt bytes at)) (flowFault d (flowAt bytes at))))
+-- The checks of a command behind 3 and 2: those of a NODE or of a FLOW.
+unfoldable pub laterFault : List ℕ → ℕ → Draft → ℕ
+laterFault bytes at d = cond (eqb (getD bytes at 0) 1) (nodeFault d (nodeAt bytes at)) (flowFault d (flowAt bytes at))
 
 -- 01: nodes are numbered as they come. What is read so far, with one node more.
 unfoldable pub withNode : Site → Node → Site
@@ -74,19 +71,17 @@ flowAdded d f = record { site = withFlow (d .site) f; next = f .number + 1 }
 unfoldable pub after : List ℕ → ℕ → Draft → Draft
 after bytes at d = cond (eqb (getD bytes at 0) 1) (nodeAdded d (nodeAt bytes at)) (flowAdded d (flowAt bytes at))
 
--- 01, the checks of END, 9 and 10: END at index `at` of so many bytes.
-unfoldable pub endOf : ℕ → ℕ → Site → Outcome Site
-endOf size at s = cond (eqb (s .links) 0) (refused 9 at) (cond (ltb (at + 1) size) (refused 10 (at + 1)) (accepted s))
+-- 01, the checks of END, 9 and 10, behind these nodes and flows.
+abbrev pub endOf : ℕ → ℕ → Site → Outcome Site
+endOf size at s = ended size at (s .links) s
 
--- One command after the other from index `at` on. Where the bytes end without END: 2, at their length. The first argument is how many
--- commands are allowed; the number of bytes is always enough.
-unfoldable pub decodeFrom : ℕ → List ℕ → ℕ → Draft → Outcome Site
-decodeFrom zero bytes at d = refused 2 (length bytes)
-decodeFrom (suc steps) bytes at d =
-    cond (ltb at (length bytes))
-    (cond (eqb (getD bytes at 0) 255) (endOf (length bytes) at (d .site))
-    (cond (eqb (fault bytes at d) 0) (decodeFrom steps bytes (at + sizeOf (getD bytes at 0)) (after bytes at d)) (refused (fault bytes at d) at)))
-    (refused 2 (length bytes))
+-- Plans as a kind of file.
+abbrev pub plans : Kind Draft Site
+plans = record { size = sizeOf; later = laterFault; after = after; end = λ size at d. endOf size at (d .site) }
+
+-- 01, the order of a command's checks: 3, 2, and then those of a NODE or of a FLOW.
+abbrev pub fault : List ℕ → ℕ → Draft → ℕ
+fault = faultOf plans
 
 -- Before the first command.
 abbrev pub blank : Draft
@@ -94,7 +89,7 @@ blank = record { site = emptySite; next = 0 }
 
 -- The form of the bytes: a refusal, or the nodes and flows, with no schedule yet.
 unfoldable pub decode : List ℕ → Outcome Site
-decode bytes = decodeFrom (length bytes) bytes 0 blank
+decode bytes = readFrom plans (length bytes) bytes 0 blank
 
 -- After END come 11, 12 and 13.
 unfoldable pub judgeForm : Outcome Site → Outcome Site

@@ -25,7 +25,7 @@ use Rattle.limits.specs.Check.{passesOf, callFault}
 use Rattle.limits.specs.Words.{Sound}
 use Rattle.limits.proofs.Laws.{passes-sound, call-when, site-first, call-first, siblings-apart}
 use Rattle.limits.proofs.Laws.Check.{passes-few}
-use Rattle.limits.proofs.Laws.Tests.{not-when}
+use Rattle.pinwheel.proofs.Laws.Choices.{not-when}
 use Rattle.counters.specs.Blocks.{cellsOf, zeros}
 use Rattle.counters.proofs.Laws.{length-block, length-joined, block-joined, block-zeros}
 use Rattle.simulation.specs.Sender.{childSends, sendingChild, lookupOf, senderOf}

@@ -1,5 +1,4 @@
 -- What is proved of sites: what the searches of 12, 13 and 17 find, in words. The modules named here hold the lemmas, and the laws of routes, depths and loads.
-pub mod Choices
 pub mod Tree
 pub mod Reservations
 use Prim.Native.Nat.{ℕ, zero, suc, _+_, _≤_, _<_}

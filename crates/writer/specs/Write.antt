@@ -1,6 +1,6 @@
 -- What the writers put into a borrowed slice.
 use Prim.Native.Nat.{ℕ, _+_}
-use mathlib.Core.Bool.{cond}
+use mathlib.Core.Bool.{Bool, cond}
 use mathlib.Core.List.{List, [], _∷_, _++_}
 use lib.Dec.{eqb, ltb}
 use lib.ListN.{length, getD, drop}
@@ -12,6 +12,8 @@ use Rattle.writer.specs.declared.Written.{Written}
 use Rattle.writer.specs.declared.Written.the-variants.{Length, Refused}
 use Rattle.format.specs.Bytes.{bytesOf}
 use Rattle.limits.specs.Check.{passesOf}
+use Rattle.schedule_file.specs.declared.Schedule.{Schedule}
+use Rattle.schedule_file.specs.Check.{schedulePasses}
 
 -- What each case of a writer's answer says in the terms of 01's tables: the number of bytes written, or the number and place of a refusal.
 abbrev pub writing : Written → Outcome ℕ
@@ -36,8 +38,8 @@ flowBytes s n = flowCommand n (getD (s .entries) n 0) (getD (s .rates) n 0) (get
 abbrev pub linkCommand : ℕ → ℕ → ℕ → List ℕ
 linkCommand node offset period = 17 ∷ node ∷ bytesOf 2 offset ++ bytesOf 2 period
 
-unfoldable pub linkBytes : List ℕ → List ℕ → ℕ → List ℕ
-linkBytes offsets periods i = linkCommand (i + 1) (getD offsets i 0) (getD periods i 0)
+unfoldable pub linkBytes : Schedule → ℕ → List ℕ
+linkBytes s i = linkCommand (i + 1) (getD (s .offsets) i 0) (getD (s .periods) i 0)
 
 unfoldable pub flowIfLive : Site → ℕ → List ℕ
 flowIfLive s n = cond (live s n) (flowBytes s n) []
@@ -50,23 +52,41 @@ commandBytes s = joined (nodeBytes s) (s .links) 0 ++ joined (flowIfLive s) 64 0
 unfoldable pub planBytes : Site → List ℕ
 planBytes s = commandBytes s ++ (255 ∷ [])
 
+-- The schedule of a site: its links, with their offsets and periods.
+unfoldable pub scheduleOf : Site → Schedule
+scheduleOf s = record { links = s .links; offsets = s .offsets; periods = s .periods }
+
 -- 01: the LINKs by rising node, END.
-unfoldable pub scheduleBytes : ℕ → List ℕ → List ℕ → List ℕ
-scheduleBytes links offsets periods = joined (linkBytes offsets periods) links 0 ++ (255 ∷ [])
+unfoldable pub scheduleBytes : Schedule → List ℕ
+scheduleBytes s = joined (linkBytes s) (s .links) 0 ++ (255 ∷ [])
 
 -- 01: a writer fills the front of the borrowed slice and keeps the rest. Too short a slice is 1, judged after all else.
 unfoldable pub written : List ℕ → List ℕ → Outcome ℕ × List ℕ
 written bytes out = cond (ltb (length out) (length bytes)) (refused 1 0, out) (accepted (length bytes), bytes ++ drop (length bytes) out)
 
--- The writing where 14 and 9 are not asked: a site with more links than one can have is refused, since it has no entries for them. On every site
+-- The writing where 14 and 9 are not asked, of so many links: more than there can be are refused, since there are no entries for them. On every site
 -- that passes the two checks it is the writing with them: the law `plain-writing`.
-unfoldable pub encoded : Site → List ℕ → List ℕ → Outcome ℕ × List ℕ
-encoded s bytes out = cond (ltb 63 (s .links)) (refused 14 0, out) (written bytes out)
+unfoldable pub encoded : ℕ → List ℕ → List ℕ → Outcome ℕ × List ℕ
+encoded links bytes out = cond (ltb 63 links) (refused 14 0, out) (written bytes out)
 
--- 01, the checks of a site handed to a writer: the first of 14 and 9 that it fails, 0 where it fails neither.
-unfoldable pub siteFault : Site → ℕ
-siteFault s = cond (passesOf s) (cond (eqb (s .links) 0) 9 0) 14
+-- 01, the checks of what is handed to a writer, by whether 14 lets it pass and by its links: the first of 14 and 9 that it fails, 0 where it fails neither.
+unfoldable pub handedFault : Bool → ℕ → ℕ
+handedFault passes links = cond passes (cond (eqb links 0) 9 0) 14
 
--- Those checks, then the writing itself.
-unfoldable pub writtenIf : Site → List ℕ → List ℕ → Outcome ℕ × List ℕ
-writtenIf s bytes out = cond (eqb (siteFault s) 0) (written bytes out) (refused (siteFault s) 0, out)
+-- Those of a site and, by 02, U1, those of a schedule: 14 for one that no file reads to, save the one without links, which gets 9.
+abbrev pub siteFault : Site → ℕ
+siteFault s = handedFault (passesOf s) (s .links)
+
+abbrev pub scheduleFault : Schedule → ℕ
+scheduleFault s = handedFault (schedulePasses s) (s .links)
+
+-- The first check that failed, 0 where none did, and then the writing itself.
+unfoldable pub writtenUnless : ℕ → List ℕ → List ℕ → Outcome ℕ × List ℕ
+writtenUnless fault bytes out = cond (eqb fault 0) (written bytes out) (refused fault 0, out)
+
+-- The bytes of a site, its plan or its schedule; and those of a schedule by itself.
+abbrev pub writtenIf : Site → List ℕ → List ℕ → Outcome ℕ × List ℕ
+writtenIf s bytes out = writtenUnless (siteFault s) bytes out
+
+abbrev pub scheduleWritten : Schedule → List ℕ → Outcome ℕ × List ℕ
+scheduleWritten s out = writtenUnless (scheduleFault s) (scheduleBytes s) out

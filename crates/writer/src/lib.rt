@@ -1,4 +1,5 @@
 // Writing plans and schedules into a borrowed slice.
+use schedule_file::Schedule;
 use site::Site;
 ghost use mathlib.Core.Path.{_≡_};
 ghost use Prim.Native.Nat.{_+_, _≤_, _<_};
@@ -6,7 +7,7 @@ ghost use lib.ListN.{length};
 ghost use lib.Seq.{sets};
 ghost use Rattle.writer.specs.Write.{writing, nodeCommand, nodeBytes, flowCommand, flowIfLive, linkCommand, linkBytes, planBytes, scheduleBytes};
 ghost use Rattle.pinwheel.specs.Search.{joined};
-ghost use Rattle.writer.specs.Write.{written, encoded, siteFault, writtenIf};
+ghost use Rattle.writer.specs.Write.{scheduleOf, written, encoded, handedFault, writtenIf, scheduleWritten};
 
 // The number of bytes written, or the number and the place of a refusal.
 pub enum Written {
@@ -134,17 +135,17 @@ fn put_plan(site: Site, out: &mut [u8]) -> Written
     Written::Length(size)
 }
 
-// So many links, with these offsets and periods, from the start on; answers the index after them.
-fn put_links(links: u8, offsets: [u16; 63], periods: [u16; 63], out: &mut [u8]) -> usize
-    requires { ⌜ (links ≤ 63) × (length (joined (linkBytes offsets periods) links 0) ≤ length (now out)) ⌝ }
-    ensures { λ r. ⌜ (now (out .exit) ≡ sets (now (out .entry)) 0 (joined (linkBytes offsets periods) links 0))
-        × (r ≡ length (joined (linkBytes offsets periods) links 0)) ⌝ }
+// All links, from the start on; answers the index after them.
+fn put_links(schedule: Schedule, out: &mut [u8]) -> usize
+    requires { ⌜ (schedule .links ≤ 63) × (length (joined (linkBytes schedule) (schedule .links) 0) ≤ length (now out)) ⌝ }
+    ensures { λ r. ⌜ (now (out .exit) ≡ sets (now (out .entry)) 0 (joined (linkBytes schedule) (schedule .links) 0))
+        × (r ≡ length (joined (linkBytes schedule) (schedule .links) 0)) ⌝ }
 {
-    let n = links as usize;
+    let n = schedule.links as usize;
     let mut at = 0;
     let mut i = 0;
     while i < n {
-        let command = link_command((i + 1) as u8, offsets[i], periods[i]);
+        let command = link_command((i + 1) as u8, schedule.offsets[i], schedule.periods[i]);
         put(out, at, &command);
         at += format::schedule_size(17);
         i += 1;
@@ -152,23 +153,23 @@ fn put_links(links: u8, offsets: [u16; 63], periods: [u16; 63], out: &mut [u8]) 
     at
 }
 
-// The schedule of so many links, with these offsets and periods.
-fn put_schedule(links: u8, offsets: [u16; 63], periods: [u16; 63], out: &mut [u8]) -> Written
-    requires { ⌜ links ≤ 63 ⌝ }
-    ensures { λ r. ⌜ (writing r, now (out .exit)) ≡ written (scheduleBytes links offsets periods) (now (out .entry)) ⌝ }
+// A schedule that passed the other checks.
+fn put_schedule(schedule: Schedule, out: &mut [u8]) -> Written
+    requires { ⌜ schedule .links ≤ 63 ⌝ }
+    ensures { λ r. ⌜ (writing r, now (out .exit)) ≡ written (scheduleBytes schedule) (now (out .entry)) ⌝ }
 {
-    let size = format::schedule_size(17) * links as usize + 1;
+    let size = format::schedule_size(17) * schedule.links as usize + 1;
     if out.len() < size {
         return Written::Refused(1, 0);
     }
-    let end = put_links(links, offsets, periods, out);
+    let end = put_links(schedule, out);
     out[end] = 255;
     Written::Length(size)
 }
 
 // The plan bytes of a site whose checks 14 and 9 are not asked here.
 pub fn encode_plan(site: Site, out: &mut [u8]) -> Written
-    ensures { λ r. ⌜ (writing r, now (out .exit)) ≡ encoded site (planBytes site) (now (out .entry)) ⌝ }
+    ensures { λ r. ⌜ (writing r, now (out .exit)) ≡ encoded (site .links) (planBytes site) (now (out .entry)) ⌝ }
 {
     if 63 < site.links {
         return Written::Refused(14, 0);
@@ -176,28 +177,37 @@ pub fn encode_plan(site: Site, out: &mut [u8]) -> Written
     put_plan(site, out)
 }
 
-// The schedule bytes of a site whose checks 14 and 9 are not asked here.
-pub fn encode_schedule(site: Site, out: &mut [u8]) -> Written
-    ensures { λ r. ⌜ (writing r, now (out .exit))
-        ≡ encoded site (scheduleBytes (site .links) (site .offsets) (site .periods)) (now (out .entry)) ⌝ }
+// The bytes of a schedule whose checks 14 and 9 are not asked here.
+pub fn encode_schedule(schedule: Schedule, out: &mut [u8]) -> Written
+    ensures { λ r. ⌜ (writing r, now (out .exit)) ≡ encoded (schedule .links) (scheduleBytes schedule) (now (out .entry)) ⌝ }
 {
-    let links = site.links;
-    if 63 < links {
+    if 63 < schedule.links {
         return Written::Refused(14, 0);
     }
-    let offsets = site.offsets;
-    let periods = site.periods;
-    put_schedule(links, offsets, periods, out)
+    put_schedule(schedule, out)
 }
 
-// 14 and 9 for a site handed to a writer, 0 where it fails neither.
-fn site_fault(site: Site) -> u8
-    ensures { λ r. ⌜ r ≡ siteFault site ⌝ }
+// The schedule of a site.
+pub fn schedule_of(site: Site) -> Schedule
+    ensures { λ r. ⌜ r ≡ scheduleOf site ⌝ }
 {
-    if !limits::passes(site) {
+    let offsets = site.offsets;
+    let periods = site.periods;
+    Schedule {
+        links: site.links,
+        offsets,
+        periods,
+    }
+}
+
+// 14 and 9 for what is handed to a writer, 0 where it fails neither.
+fn handed_fault(passes: bool, links: u8) -> u8
+    ensures { λ r. ⌜ r ≡ handedFault passes links ⌝ }
+{
+    if !passes {
         return 14;
     }
-    if site.links == 0 {
+    if links == 0 {
         return 9;
     }
     0
@@ -207,7 +217,7 @@ fn site_fault(site: Site) -> u8
 pub fn write_plan(site: Site, out: &mut [u8]) -> Written
     ensures { λ r. ⌜ (writing r, now (out .exit)) ≡ writtenIf site (planBytes site) (now (out .entry)) ⌝ }
 {
-    let fault = site_fault(site);
+    let fault = handed_fault(limits::passes(site), site.links);
     if fault != 0 {
         return Written::Refused(fault, 0);
     }
@@ -216,12 +226,22 @@ pub fn write_plan(site: Site, out: &mut [u8]) -> Written
 
 // The schedule bytes of a site.
 pub fn write_schedule(site: Site, out: &mut [u8]) -> Written
-    ensures { λ r. ⌜ (writing r, now (out .exit))
-        ≡ writtenIf site (scheduleBytes (site .links) (site .offsets) (site .periods)) (now (out .entry)) ⌝ }
+    ensures { λ r. ⌜ (writing r, now (out .exit)) ≡ writtenIf site (scheduleBytes (scheduleOf site)) (now (out .entry)) ⌝ }
 {
-    let fault = site_fault(site);
+    let fault = handed_fault(limits::passes(site), site.links);
     if fault != 0 {
         return Written::Refused(fault, 0);
     }
-    encode_schedule(site, out)
+    encode_schedule(schedule_of(site), out)
+}
+
+// The bytes of a schedule.
+pub fn write_schedule_of(schedule: Schedule, out: &mut [u8]) -> Written
+    ensures { λ r. ⌜ (writing r, now (out .exit)) ≡ scheduleWritten schedule (now (out .entry)) ⌝ }
+{
+    let fault = handed_fault(schedule_file::passes(schedule), schedule.links);
+    if fault != 0 {
+        return Written::Refused(fault, 0);
+    }
+    encode_schedule(schedule, out)
 }

@@ -22,7 +22,7 @@ use Rattle.limits.specs.declared.Node.{Node}
 use Rattle.limits.specs.Limits.{badNode, badFlow, nodeLimits, misplaced, flowLimits}
 use Rattle.limits.specs.Check.{shaped, nodeOf, flowOf, illNode, illFlow, firstIllNode, firstIllFlow, formed}
 use Rattle.limits.specs.Words.{Shape, NodeWithin, NodeGood, NoNode, FlowWithin, FlowGood, NoFlow, LiveFlow, IdleAt, Formed}
-use Rattle.limits.proofs.Laws.Tests.{neither, passed}
+use Rattle.pinwheel.proofs.Laws.Choices.{neither, passed}
 
 -- 5 in words.
 pub node-within : (n : Node) → (badNode n ≡ false) ↔ NodeWithin n

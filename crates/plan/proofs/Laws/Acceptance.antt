@@ -22,27 +22,13 @@ use Rattle.limits.specs.Limits.{badNode, badFlow, misplaced, nodeLimits, flowLi
 use Rattle.limits.specs.Words.{Formed}
 use Rattle.format.specs.Commands.{sizeOf}
 use Rattle.format.specs.Words.{Bytes}
-use Rattle.reader.specs.Read.{Draft, nodeAt, flowAt, nodeFault, flowFault, fault, endOf, decode, judgeForm, readOf}
-use Rattle.reader.proofs.Laws.Decode.{decode-out, decode-end, decode-stop}
+use Rattle.reader.specs.Read.{Draft, nodeAt, flowAt, nodeFault, flowFault, laterFault, plans, fault, endOf, decode, judgeForm, readOf}
+use Rattle.format.specs.Reading.{faultOf}
+use Rattle.format.proofs.Laws.Reading.{read-out, read-end, read-stop, Stop, out, end, fails, EndWay, bare, more, last, end-way, ended-last}
 use Rattle.writer.specs.Write.{nodeBytes, flowBytes, flowIfLive, commandBytes, planBytes}
 use Rattle.plan.specs.Words.{InForm}
-use Rattle.plan.proofs.Laws.FromBytes.{Reached, Stop, out, end, fails, stops}
+use Rattle.plan.proofs.Laws.FromBytes.{Reached, stops}
 use Rattle.plan.proofs.Laws.FromSites.{zeros, begun-read}
-
--- The three ways that END ends.
-pub data EndWay (size at : ℕ) (s : Site) : Type 0 where
-  bare : s .links ≡ 0 → endOf size at s ≡ refused 9 at → EndWay size at s
-  more : 1 ≤ s .links → at + 1 < size → endOf size at s ≡ refused 10 (at + 1) → EndWay size at s
-  last : 1 ≤ s .links → size ≤ at + 1 → endOf size at s ≡ accepted s → EndWay size at s
-
-pub end-way : (size at : ℕ) (s : Site) → EndWay size at s
-unfolding endOf
-end-way size at s = go (eqb (s .links) 0) refl (ltb (at + 1) size) refl
-  where
-    go : (a : Bool) → eqb (s .links) 0 ≡ a → (b : Bool) → ltb (at + 1) size ≡ b → EndWay size at s
-    go true p b q = bare (eqb-true _ _ p) (simp p)
-    go false p true q = let z : s .links ≡ 0 → ⊥ = eqb-false _ _ p in more (omega arith) (ltb-true _ _ q) (simp (p, q))
-    go false p false q = let z : s .links ≡ 0 → ⊥ = eqb-false _ _ p in last (omega arith) (ltb-false _ _ q) (simp (p, q))
 
 -- No check of a command has a number above 8.
 below : (t : Bool) (m n : ℕ) → m ≤ 8 → n ≤ 8 → cond t m n ≤ 8
@@ -50,7 +36,7 @@ below true m n a b = a
 below false m n a b = b
 
 pub fault-most : (bytes : List ℕ) (at : ℕ) (d : Draft) → fault bytes at d ≤ 8
-unfolding fault nodeFault flowFault nodeLimits flowLimits
+unfolding faultOf laterFault nodeFault flowFault nodeLimits flowLimits
 fault-most bytes at d =
     below (eqb (sizeOf (getD bytes at 0)) 0) _ _ (omega arith)
     (below (ltb (length bytes) (at + sizeOf (getD bytes at 0))) _ _ (omega arith)
@@ -69,45 +55,45 @@ module _ (bytes : List ℕ) (small : Bytes bytes) where
   unfolding planBytes
   decode-form s e = go (stops bytes small)
     where
-      ends : (m : ℕ) (d : Draft) → Reached bytes m d → m < length bytes → getD bytes m 0 ≡ 255 → EndWay (length bytes) m (d .site) → InForm bytes s
-      ends m d r l b (bare z q) = absurd (refused-not _ (r .here ∙ decode-end bytes m d l b ∙ q) e)
-      ends m d r l b (more o n q) = absurd (refused-not _ (r .here ∙ decode-end bytes m d l b ∙ q) e)
+      ends : (m : ℕ) (d : Draft) → Reached bytes m d → m < length bytes → getD bytes m 0 ≡ 255 → EndWay (length bytes) m (d .site .links) (d .site) → InForm bytes s
+      ends m d r l b (bare z q) = absurd (refused-not _ (r .here ∙ read-end plans bytes m d l b ∙ q) e)
+      ends m d r l b (more o n q) = absurd (refused-not _ (r .here ∙ read-end plans bytes m d l b ∙ q) e)
       ends m d r l b (last o n q) =
-          let own : accepted (d .site) ≡ accepted s = sym (r .here ∙ decode-end bytes m d l b ∙ q) ∙ e in
+          let own : accepted (d .site) ≡ accepted s = sym (r .here ∙ read-end plans bytes m d l b ∙ q) ∙ e in
           let same : d .site ≡ s = cc in
           let rest : drop m bytes ≡ 255 ∷ [] = rw (drop-cons bytes m 0 l, b, drop-of-length-le bytes {i = suc m} (omega arith)) in
           rw (← same) (record { formed = r .drafted .formed; bare = r .drafted .bare; some = o; are = r .are ∙ ap (λ (l : List ℕ). commandBytes (d .site) ++ l) rest })
 
-      go : (m : ℕ) × (d : Draft) × Reached bytes m d × Stop bytes m d → InForm bytes s
-      go (m, d, r, out q) = absurd (refused-not _ (r .here ∙ decode-out bytes m d (omega arith)) e)
-      go (m, d, r, end l b) = ends m d r l b (end-way (length bytes) m (d .site))
-      go (m, d, r, fails l b f) = absurd (refused-not _ (r .here ∙ decode-stop bytes m d l b f) e)
+      go : (m : ℕ) × (d : Draft) × Reached bytes m d × Stop plans bytes m d → InForm bytes s
+      go (m, d, r, out q) = absurd (refused-not _ (r .here ∙ read-out plans bytes m d (omega arith)) e)
+      go (m, d, r, end l b) = ends m d r l b (end-way (length bytes) m (d .site .links) (d .site))
+      go (m, d, r, fails l b f) = absurd (refused-not _ (r .here ∙ read-stop plans bytes m d l b f) e)
 
   -- What it is refused with has a number up to 10.
   pub decode-numbers : (number place : ℕ) → decode bytes ≡ refused number place → number ≤ 10
   decode-numbers number place e = go (stops bytes small)
     where
-      ends : (m : ℕ) (d : Draft) → decode bytes ≡ endOf (length bytes) m (d .site) → EndWay (length bytes) m (d .site) → number ≤ 10
+      ends : (m : ℕ) (d : Draft) → decode bytes ≡ endOf (length bytes) m (d .site) → EndWay (length bytes) m (d .site .links) (d .site) → number ≤ 10
       ends m d h (bare z q) = let n : number ≡ 9 = cc in omega arith
       ends m d h (more o l q) = let n : number ≡ 10 = cc in omega arith
       ends m d h (last o l q) = absurd (refused-not _ e (h ∙ q))
 
-      go : (m : ℕ) × (d : Draft) × Reached bytes m d × Stop bytes m d → number ≤ 10
-      go (m, d, r, out q) = let n : number ≡ 2 = cc (r .here ∙ decode-out bytes m d (omega arith)) in omega arith
-      go (m, d, r, end l b) = ends m d (r .here ∙ decode-end bytes m d l b) (end-way (length bytes) m (d .site))
+      go : (m : ℕ) × (d : Draft) × Reached bytes m d × Stop plans bytes m d → number ≤ 10
+      go (m, d, r, out q) = let n : number ≡ 2 = cc (r .here ∙ read-out plans bytes m d (omega arith)) in omega arith
+      go (m, d, r, end l b) = ends m d (r .here ∙ read-end plans bytes m d l b) (end-way (length bytes) m (d .site .links) (d .site))
       go (m, d, r, fails l b f) =
-          let n : number ≡ fault bytes m d = cc (r .here ∙ decode-stop bytes m d l b f) in omega (arith, fault-most bytes m d)
+          let n : number ≡ fault bytes m d = cc (r .here ∙ read-stop plans bytes m d l b f) in omega (arith, fault-most bytes m d)
 
 -- The bytes of nodes and flows in form are read to them.
 decode-plan : (s : Site) → Formed s → 1 ≤ s .links → decode (planBytes s) ≡ accepted (withSchedule s zeros zeros)
-unfolding planBytes endOf withSchedule
+unfolding planBytes withSchedule
 decode-plan s g some =
     let at = length (commandBytes s) in
     let long : length (planBytes s) ≡ at + 1 = length-append (commandBytes s) (255 ∷ []) in
     let n : s .links ≡ 0 → ⊥ = omega arith in
     let w = begun-read (planBytes s) at s g (omega arith) (take-at (commandBytes s) (255 ∷ []) at refl) in
-    w .1 ∙ decode-end (planBytes s) at _ (omega arith) (getD-append-seam (commandBytes s) 255 [] 0)
-    ∙ simp (ne-eqb _ _ n, le-ltb (at + 1) (length (planBytes s)) (omega arith))
+    w .1 ∙ read-end plans (planBytes s) at _ (omega arith) (getD-append-seam (commandBytes s) 255 [] 0)
+    ∙ ended-last (length (planBytes s)) at (s .links) _ n (omega arith)
 
 pub read-plan : (s : Site) → Formed s → 1 ≤ s .links → readOf (planBytes s) ≡ judgeOf s
 unfolding readOf judgeForm

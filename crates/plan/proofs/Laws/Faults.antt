@@ -14,11 +14,12 @@ use Rattle.site.specs.declared.Site.{Site}
 use Rattle.site.specs.Sites.{live}
 use Rattle.limits.specs.Limits.{badNode, badFlow, misplaced, nodeLimits, flowLimits}
 use Rattle.limits.specs.Words.{NodeWithin, FlowWithin}
-use Rattle.limits.proofs.Laws.Tests.{fails-when}
+use Rattle.pinwheel.proofs.Laws.Choices.{fails-when}
 use Rattle.limits.proofs.Laws.Forms.{node-within, flow-within}
 use Rattle.format.specs.Commands.{sizeOf}
 use Rattle.format.proofs.Laws.{size-node, size-flow, size-none, size-kinds}
-use Rattle.reader.specs.Read.{Draft, nodeAt, flowAt, nodeFault, flowFault, fault}
+use Rattle.format.specs.Reading.{faultOf}
+use Rattle.reader.specs.Read.{Draft, nodeAt, flowAt, nodeFault, flowFault, laterFault, fault}
 use Rattle.plan.specs.Words.{Checks, none, check, FirstOf, IsNode, IsFlow, laterChecks, commandChecks}
 use Rattle.plan.proofs.Laws.Drafts.{NextOf}
 
@@ -111,7 +112,7 @@ module _ (bytes : List ℕ) (at : ℕ) (d : Draft) (w : NextOf (d .site) (d .nex
 
   -- All checks of a command.
   pub fault-first : (fault bytes at d ≡ n) ↔ FirstOf (commandChecks bytes at s) n
-  unfolding fault
+  unfolding faultOf laterFault
   fault-first =
       first-check _ 3 _ n _ _ (λ e. unknown (eqb-true _ _ e), λ f. eq-eqb _ _ (sym (size-none (getD bytes at 0) (f .0) (f .1))))
       (λ known. first-check _ 2 _ n _ _ (ltb-true _ _, lt-ltb _ _) (λ _. kind (size-kinds (getD bytes at 0) (eqb-false _ _ known))))

@@ -5,9 +5,7 @@ use mathlib.Core.List.{List, [], _∷_, _++_, append-assoc, append-nil}
 use mathlib.Core.Logic.{_⊎_, inl, inr}
 use lib.ListN.{length, getD, take, drop, length-append, take-append-drop}
 use lib.Seq.{drop-cons, drop-drop, take-at}
-use native.Mathlib.Decide.{ℕ-discrete}
 use native.Mathlib.Omega.{arith}
-use Rattle.pinwheel.proofs.Laws.Search.{lt-or-le}
 use Rattle.site.specs.declared.Site.{Site}
 use Rattle.site.specs.declared.Flow.{Flow}
 use Rattle.site.specs.Sites.{live, withFlow}
@@ -19,9 +17,11 @@ use Rattle.format.specs.Bytes.{numberAt, bytesOf}
 use Rattle.format.specs.Commands.{sizeOf}
 use Rattle.format.specs.Words.{Bytes}
 use Rattle.format.proofs.Laws.{bytes-number, number-one}
-use Rattle.reader.specs.Read.{Draft, nodeAt, flowAt, flowFault, withNode, nodeAdded, flowAdded, fault, after, decode, blank}
+use Rattle.reader.specs.Read.{Draft, nodeAt, flowAt, flowFault, withNode, nodeAdded, flowAdded, after, plans, fault, decode, blank}
 use Rattle.reader.proofs.Laws.Commands.{node-passed}
-use Rattle.reader.proofs.Laws.Decode.{decodeOn, decode-start, decode-go, fault-none, NodePasses, FlowPasses}
+use Rattle.format.proofs.Laws.Reading.{readOn, read-go, Stop}
+use Rattle.format.proofs.Laws.Reading as way
+use Rattle.reader.proofs.Laws.Decode.{decode-start, fault-none, NodePasses, FlowPasses}
 use Rattle.writer.specs.Write.{nodeBytes, flowBytes, flowIfLive, commandBytes}
 use Rattle.pinwheel.specs.Search.{joined}
 use Rattle.pinwheel.proofs.Laws.Items.{joined-split, joined-more, joined-none, joined-same}
@@ -133,7 +133,7 @@ pub record Reached (bytes : List ℕ) (at : ℕ) (d : Draft) : Type 0 where
   pub within : at ≤ length bytes
   pub size : at ≡ length (commandBytes (d .site))
   pub are : bytes ≡ commandBytes (d .site) ++ drop at bytes
-  pub here : decode bytes ≡ decodeOn bytes at d
+  pub here : decode bytes ≡ readOn plans bytes at d
 
 pub reached-begun : (bytes : List ℕ) (at : ℕ) (d : Draft) → Reached bytes at d → Begun bytes at (d .site)
 reached-begun bytes at d r = record {
@@ -152,7 +152,7 @@ module _ (bytes : List ℕ) (small : Bytes bytes) (at : ℕ) (d : Draft) (r : Re
   -- What one command more makes of it, whose bytes are `new`.
   reached-more : (m : ℕ) (e : Draft) (new : List ℕ) → Drafted e → m ≤ length bytes → m ≡ at + length new
       → drop at bytes ≡ new ++ drop m bytes → commandBytes (e .site) ≡ commandBytes (d .site) ++ new
-      → decode bytes ≡ decodeOn bytes m e → Reached bytes m e
+      → decode bytes ≡ readOn plans bytes m e → Reached bytes m e
   reached-more m e new g l h q c there = record {
     drafted = g;
     within = l;
@@ -169,8 +169,8 @@ module _ (bytes : List ℕ) (small : Bytes bytes) (at : ℕ) (d : Draft) (r : Re
       within : at + sizeOf (getD bytes at 0) ≤ length bytes
       within = fault-none bytes at d e .1
 
-      there : decode bytes ≡ decodeOn bytes (at + sizeOf (getD bytes at 0)) (after bytes at d)
-      there = r .here ∙ decode-go bytes at d l b e
+      there : decode bytes ≡ readOn plans bytes (at + sizeOf (getD bytes at 0)) (after bytes at d)
+      there = r .here ∙ read-go plans bytes at d l b e
 
       go : NodePasses bytes at d ⊎ FlowPasses bytes at d → Reached bytes (at + sizeOf (getD bytes at 0)) (after bytes at d)
       go (inl (one, f, a)) =
@@ -196,26 +196,6 @@ module _ (bytes : List ℕ) (small : Bytes bytes) (at : ℕ) (d : Draft) (r : Re
           (flow-new (d .site) 1 h (r .drafted .formed .shape) (omega (arith, w .within .number-most)) .1))
           (commands-flow d (r .drafted) h w) (rw (a, size) at there))
 
--- Where a reading stops: at the end of the bytes, at END, or at a command that fails a check.
-pub data Stop (bytes : List ℕ) (at : ℕ) (d : Draft) : Type 0 where
-  out : at ≡ length bytes → Stop bytes at d
-  end : at < length bytes → getD bytes at 0 ≡ 255 → Stop bytes at d
-  fails : at < length bytes → (getD bytes at 0 ≡ 255 → ⊥) → (fault bytes at d ≡ 0 → ⊥) → Stop bytes at d
-
--- r is how many bytes are left at most.
-stops-from : (bytes : List ℕ) → Bytes bytes → (r at : ℕ) (d : Draft) → length bytes ≤ at + r → Reached bytes at d
-    → (m : ℕ) × (e : Draft) × Reached bytes m e × Stop bytes m e
-stops-from bytes small zero at d h w = (at, d, w, out (omega (arith, w .within)))
-stops-from bytes small (suc r) at d h w =
-    go (lt-or-le at (length bytes)) (ℕ-discrete (getD bytes at 0) 255) (ℕ-discrete (fault bytes at d) 0) (stops-from bytes small r)
-  where
-    go : (at < length bytes) ⊎ (length bytes ≤ at) → Dec (getD bytes at 0 ≡ 255) → Dec (fault bytes at d ≡ 0)
-        → ((at : ℕ) (d : Draft) → length bytes ≤ at + r → Reached bytes at d → (m : ℕ) × (e : Draft) × Reached bytes m e × Stop bytes m e)
-        → (m : ℕ) × (e : Draft) × Reached bytes m e × Stop bytes m e
-    go (inr l) b f on = (at, d, w, out (omega (arith, w .within)))
-    go (inl l) (yes b) f on = (at, d, w, end l b)
-    go (inl l) (no b) (no f) on = (at, d, w, fails l b f)
-    go (inl l) (no b) (yes f) on = on _ _ (omega (arith, fault-none bytes at d f .0)) (reached-step bytes small at d w l b f)
-
-pub stops : (bytes : List ℕ) → Bytes bytes → (m : ℕ) × (e : Draft) × Reached bytes m e × Stop bytes m e
-stops bytes small = stops-from bytes small (length bytes) 0 blank (omega arith) (reached-start bytes)
+pub stops : (bytes : List ℕ) → Bytes bytes → (m : ℕ) × (e : Draft) × Reached bytes m e × Stop plans bytes m e
+stops bytes small =
+    way.stops plans bytes (Reached bytes) (λ at d r. r .within) (λ at d r l b e. reached-step bytes small at d r l b e) blank (reached-start bytes)

@@ -25,10 +25,12 @@ use Rattle.plan.proofs.Laws.Lists.{upto, upto-long, upto-below, upto-ze
 use Rattle.format.proofs.Laws.{number-bytes, byte-at, head-at, left-at, left-long}
 use Rattle.limits.proofs.Laws.Flows.{live-few}
 use Rattle.limits.proofs.Laws.Forms.{node-good, flow-good, good-same, good-wider}
-use Rattle.reader.specs.Read.{fault, after}
+use Rattle.reader.specs.Read.{laterFault, after, plans}
 use Rattle.format.specs.Commands.{sizeOf}
 use Rattle.format.proofs.Laws.{node-some, flow-some}
-use Rattle.reader.proofs.Laws.Decode.{decodeOn, decode-start, decode-go}
+use Rattle.format.specs.Reading.{faultOf}
+use Rattle.format.proofs.Laws.Reading.{readOn, read-go}
+use Rattle.reader.proofs.Laws.Decode.{decode-start}
 use Rattle.writer.proofs.Laws.Write.{node-size, flow-size, live-bytes, idle-bytes}
 
 -- No offsets, and no periods.
@@ -162,18 +164,18 @@ module _ (s : Site) (g : Formed s) where
 module _ (bytes : List ℕ) (at : ℕ) (d : Draft) where
   command-read : (k : ℕ) → (k ≡ 255 → ⊥) → 1 ≤ sizeOf k → at + sizeOf k ≤ length bytes → getD bytes at 0 ≡ k
       → cond (eqb k 1) (nodeFault d (nodeAt bytes at)) (flowFault d (flowAt bytes at)) ≡ 0
-      → decodeOn bytes at d ≡ decodeOn bytes (at + sizeOf k) (cond (eqb k 1) (nodeAdded d (nodeAt bytes at)) (flowAdded d (flowAt bytes at)))
-  unfolding fault after
+      → readOn plans bytes at d ≡ readOn plans bytes (at + sizeOf k) (cond (eqb k 1) (nodeAdded d (nodeAt bytes at)) (flowAdded d (flowAt bytes at)))
+  unfolding faultOf laterFault after
   command-read k other some inside t e =
       let n : sizeOf k ≡ 0 → ⊥ = omega arith in
-      rw t at (decode-go bytes at d (omega arith) (λ z. other (sym t ∙ z)) (rw (t, ne-eqb _ _ n, le-ltb (length bytes) (at + sizeOf k) inside) e))
+      rw t at (read-go plans bytes at d (omega arith) (λ z. other (sym t ∙ z)) (rw (t, ne-eqb _ _ n, le-ltb (length bytes) (at + sizeOf k) inside) e))
 
   node-read : at + sizeOf 1 ≤ length bytes → getD bytes at 0 ≡ 1 → nodeFault d (nodeAt bytes at) ≡ 0
-      → decodeOn bytes at d ≡ decodeOn bytes (at + sizeOf 1) (nodeAdded d (nodeAt bytes at))
+      → readOn plans bytes at d ≡ readOn plans bytes (at + sizeOf 1) (nodeAdded d (nodeAt bytes at))
   node-read = command-read 1 (omega arith) node-some
 
   flow-read : at + sizeOf 2 ≤ length bytes → getD bytes at 0 ≡ 2 → flowFault d (flowAt bytes at) ≡ 0
-      → decodeOn bytes at d ≡ decodeOn bytes (at + sizeOf 2) (flowAdded d (flowAt bytes at))
+      → readOn plans bytes at d ≡ readOn plans bytes (at + sizeOf 2) (flowAdded d (flowAt bytes at))
   flow-read = command-read 2 (omega arith) flow-some
 
 -- How far the flows with numbers below n bring `next`.
@@ -211,12 +213,12 @@ module _ (s : Site) (g : Formed s) (bytes : List ℕ) where
 
   -- The reading of one command, with what is left then.
   node-step : (k at : ℕ) (rest : List ℕ) → k < s .links → drop at bytes ≡ nodeBytes s k ++ rest
-      → (decodeOn bytes at (draft s k 0 0) ≡ decodeOn bytes (at + sizeOf 1) (draft s (k + 1) 0 0)) × (drop (at + sizeOf 1) bytes ≡ rest)
+      → (readOn plans bytes at (draft s k 0 0) ≡ readOn plans bytes (at + sizeOf 1) (draft s (k + 1) 0 0)) × (drop (at + sizeOf 1) bytes ≡ rest)
   unfolding nodeBytes
   node-step k at rest h e = (
     node-read bytes at (draft s k 0 0) (node-inside k at rest e) (head-at bytes at _ e)
         (rw there (node-clean s k (g .nodes k h) (g .shape .parents) (omega (arith, g .few))))
-        ∙ ap (λ (d : Draft). decodeOn bytes (at + sizeOf 1) d) (rw there (node-put s g k h)),
+        ∙ ap (λ (d : Draft). readOn plans bytes (at + sizeOf 1) d) (rw there (node-put s g k h)),
     left-at bytes at _ (sizeOf 1) e ∙ drop-at (nodeBytes s k) rest (sizeOf 1) (node-size s k),
   )
     where
@@ -224,13 +226,13 @@ module _ (s : Site) (g : Formed s) (bytes : List ℕ) where
       there = node-there s k (g .nodes k h) bytes rest at e
 
   flow-step : (n next at : ℕ) (rest : List ℕ) → n < 64 → next ≤ n → LiveAt s n → drop at bytes ≡ flowBytes s n ++ rest
-      → (decodeOn bytes at (draft s (s .links) n next) ≡ decodeOn bytes (at + sizeOf 2) (draft s (s .links) (n + 1) (n + 1)))
+      → (readOn plans bytes at (draft s (s .links) n next) ≡ readOn plans bytes (at + sizeOf 2) (draft s (s .links) (n + 1) (n + 1)))
       × (drop (at + sizeOf 2) bytes ≡ rest)
   unfolding flowBytes
   flow-step n next at rest h l f e = (
     flow-read bytes at (draft s (s .links) n next) (flow-inside n at rest e) (head-at bytes at _ e)
         (rw there (flow-clean s n f next l))
-        ∙ ap (λ (d : Draft). decodeOn bytes (at + sizeOf 2) d) (rw there (flow-put s g n next h f)),
+        ∙ ap (λ (d : Draft). readOn plans bytes (at + sizeOf 2) d) (rw there (flow-put s g n next h f)),
     left-at bytes at _ (sizeOf 2) e ∙ drop-at (flowBytes s n) rest (sizeOf 2) (flow-size s n),
   )
     where
@@ -240,11 +242,11 @@ module _ (s : Site) (g : Formed s) (bytes : List ℕ) where
   -- From flow number n on the reading comes to an index m where `rest` is left.
   abbrev FlowsRead : ℕ → ℕ → ℕ → List ℕ → Type 0
   FlowsRead n next at rest =
-      (m : ℕ) × (last : ℕ) × (decodeOn bytes at (draft s (s .links) n next) ≡ decodeOn bytes m (draft s (s .links) 64 last))
+      (m : ℕ) × (last : ℕ) × (readOn plans bytes at (draft s (s .links) n next) ≡ readOn plans bytes m (draft s (s .links) 64 last))
       × (m ≤ length bytes) × (drop m bytes ≡ rest) × NextUpto s 64 last
 
   onward : (n next at k more m : ℕ) (rest : List ℕ)
-      → decodeOn bytes at (draft s (s .links) n next) ≡ decodeOn bytes m (draft s (s .links) k more) → FlowsRead k more m rest → FlowsRead n next at rest
+      → readOn plans bytes at (draft s (s .links) n next) ≡ readOn plans bytes m (draft s (s .links) k more) → FlowsRead k more m rest → FlowsRead n next at rest
   onward n next at k more m rest e (i, last, q, l, r, w) = (i, last, e ∙ q, l, r, w)
 
   -- r numbers are left.
@@ -275,7 +277,7 @@ module _ (s : Site) (g : Formed s) (bytes : List ℕ) where
 
   -- From the node at index k on, with r nodes left.
   nodes-read : (r k at : ℕ) (rest : List ℕ) → k + r ≡ s .links → at ≤ length bytes → drop at bytes ≡ joined (nodeBytes s) r k ++ rest
-      → (m : ℕ) × (decodeOn bytes at (draft s k 0 0) ≡ decodeOn bytes m (draft s (s .links) 0 0)) × (m ≤ length bytes) × (drop m bytes ≡ rest)
+      → (m : ℕ) × (readOn plans bytes at (draft s k 0 0) ≡ readOn plans bytes m (draft s (s .links) 0 0)) × (m ≤ length bytes) × (drop m bytes ≡ rest)
   unfolding joined
   nodes-read zero k at rest c h e = let z : k ≡ s .links = omega arith in (at, rw z, h, e)
   nodes-read (suc r) k at rest c h e =
@@ -286,7 +288,7 @@ module _ (s : Site) (g : Formed s) (bytes : List ℕ) where
 
 -- Bytes that begin with the commands of s, wherever they go on.
 pub begun-read : (bytes : List ℕ) (at : ℕ) (s : Site) → Formed s → at ≤ length bytes → take at bytes ≡ commandBytes s
-    → (next : ℕ) × (decode bytes ≡ decodeOn bytes at (record { site = withSchedule s zeros zeros; next = next })) × NextOf s next
+    → (next : ℕ) × (decode bytes ≡ readOn plans bytes at (record { site = withSchedule s zeros zeros; next = next })) × NextOf s next
 unfolding commandBytes
 begun-read bytes at s g within are =
     let all : bytes ≡ commandBytes s ++ drop at bytes = sym (take-append-drop at bytes) ∙ ap (λ (l : List ℕ). l ++ drop at bytes) are in
@@ -301,8 +303,8 @@ begun-read bytes at s g within are =
     none : NextUpto s 0 0
     none = record { most = omega arith; above = λ k l. absurd (omega arith); top = λ k e. absurd (omega arith) }
 
-    start : decode bytes ≡ decodeOn bytes 0 (draft s 0 0 0)
-    start = decode-start bytes ∙ ap (λ (t : Site). decodeOn bytes 0 (record { site = t; next = 0 })) (sym (part-none s g))
+    start : decode bytes ≡ readOn plans bytes 0 (draft s 0 0 0)
+    start = decode-start bytes ∙ ap (λ (t : Site). readOn plans bytes 0 (record { site = t; next = 0 })) (sym (part-none s g))
 
     same : (m : ℕ) → m ≤ length bytes → drop m bytes ≡ drop at bytes → m ≡ at
     same m l e = omega (arith, length-drop m bytes, length-drop at bytes, ap length e)
@@ -310,11 +312,11 @@ begun-read bytes at s g within are =
     next-all : (next : ℕ) → NextUpto s 64 next → NextOf s next
     next-all next w = record { above = λ n l. w .above n (live-few s g n l) l; top = w .top }
 
-    from-flows : (m : ℕ) → decode bytes ≡ decodeOn bytes m (draft s (s .links) 0 0) → FlowsRead s g bytes 0 0 m (drop at bytes)
-        → (next : ℕ) × (decode bytes ≡ decodeOn bytes at (record { site = withSchedule s zeros zeros; next = next })) × NextOf s next
+    from-flows : (m : ℕ) → decode bytes ≡ readOn plans bytes m (draft s (s .links) 0 0) → FlowsRead s g bytes 0 0 m (drop at bytes)
+        → (next : ℕ) × (decode bytes ≡ readOn plans bytes at (record { site = withSchedule s zeros zeros; next = next })) × NextOf s next
     from-flows m h (k, next, q, l, r, w) = (next, h ∙ q ∙ rw (part-all s g, same k l r), next-all next w)
 
-    from-nodes : (m : ℕ) × (decodeOn bytes 0 (draft s 0 0 0) ≡ decodeOn bytes m (draft s (s .links) 0 0)) × (m ≤ length bytes)
+    from-nodes : (m : ℕ) × (readOn plans bytes 0 (draft s 0 0 0) ≡ readOn plans bytes m (draft s (s .links) 0 0)) × (m ≤ length bytes)
         × (drop m bytes ≡ flows ++ drop at bytes)
-        → (next : ℕ) × (decode bytes ≡ decodeOn bytes at (record { site = withSchedule s zeros zeros; next = next })) × NextOf s next
+        → (next : ℕ) × (decode bytes ≡ readOn plans bytes at (record { site = withSchedule s zeros zeros; next = next })) × NextOf s next
     from-nodes (m, q, l, r) = from-flows m (start ∙ q) (flows-read s g bytes 64 0 0 m (drop at bytes) (omega arith) none l r)

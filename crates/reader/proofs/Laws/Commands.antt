@@ -1,6 +1,6 @@
 -- One law for each way that a check of a command or of END ends.
 use Prim.Native.Nat.{ℕ, _+_, _*_, _≤_, _<_}
-use mathlib.Core.Path.{_≡_, _∙_, ap}
+use mathlib.Core.Path.{_≡_, sym, _∙_, ap}
 use mathlib.Core.List.{List}
 use lib.Dec.{ltb, leb}
 use lib.ListN.{length, getD}
@@ -8,15 +8,16 @@ use borrow.Author.Tests.{lt-ltb, le-ltb, le-leb, lt-leb, eq-eqb, ne-eqb, ltb-fal
 use native.Mathlib.Omega.{arith}
 use Rattle.site.specs.declared.Site.{Site}
 use Rattle.site.specs.declared.Flow.{Flow}
-use Rattle.pinwheel.specs.Outcome.{refused}
+use Rattle.pinwheel.specs.Outcome.{Outcome, Ruling, refused}
 use Rattle.schedule.specs.Judge.{withSite, judgeOf}
 use Rattle.format.specs.Commands.{sizeOf}
 use Rattle.format.proofs.Laws.{number-one, number-two}
+use Rattle.format.proofs.Laws.Reading.{fault-later, ended-bare, ended-more, ended-last}
 use Rattle.limits.specs.declared.Node.{Node}
 use Rattle.reader.specs.Read.{Draft, nodeAt, flowAt, nodeFault, flowFault}
-use Rattle.reader.specs.Read.{fault, endOf, judgeForm}
+use Rattle.reader.specs.Read.{laterFault, endOf, plans, fault, judgeForm}
 use Rattle.limits.proofs.Laws.Forms.{node-good, flow-good}
-use Rattle.limits.proofs.Laws.Tests.{passed}
+use Rattle.pinwheel.proofs.Laws.Choices.{passed}
 use Rattle.limits.specs.Words.{NodeGood}
 use Rattle.limits.specs.Limits.{nodeLimits}
 
@@ -69,36 +70,30 @@ module _ (bytes : List ℕ) (at : ℕ) where
       rw (number-one bytes (at + 1), number-one bytes (at + 2), number-one bytes (at + 3), number-two bytes (at + 4) (at + 5) (omega arith))
       (λ i. record { number = en i; entry = ee i; rate = er i; deadline = et i })
 
--- Its checks in turn. m stands for its size.
-module _ (bytes : List ℕ) (at : ℕ) (d : Draft) (m : ℕ) (is : m ≡ sizeOf (getD bytes at 0)) where
-  pub fault-unknown : m ≡ 0 → 3 ≡ fault bytes at d
-  unfolding fault
-  fault-unknown e = rw (← is, eq-eqb _ _ e)
+-- Its own checks, where it is known and lies within the bytes. m stands for its size.
+module _ (bytes : List ℕ) (at : ℕ) (d : Draft) (m : ℕ) (is : m ≡ sizeOf (getD bytes at 0)) (known : m ≡ 0 → ⊥) (l : at + m ≤ length bytes) (r : ℕ) where
+  pub fault-node : getD bytes at 0 ≡ 1 → (n : Node) → n ≡ nodeAt bytes at → r ≡ nodeFault d n → r ≡ fault bytes at d
+  unfolding laterFault
+  fault-node one n q f = fault-later plans bytes at d m is known l r (rw (eq-eqb _ _ one, ← q) f)
 
-  module _ (known : m ≡ 0 → ⊥) where
-    pub fault-cut : length bytes < at + m → 2 ≡ fault bytes at d
-    unfolding fault
-    fault-cut l = rw (← is, ne-eqb _ _ known, lt-ltb (length bytes) (at + m) l)
-
-    module _ (l : at + m ≤ length bytes) (r : ℕ) where
-      pub fault-node : getD bytes at 0 ≡ 1 → (n : Node) → n ≡ nodeAt bytes at → r ≡ nodeFault d n → r ≡ fault bytes at d
-      unfolding fault
-      fault-node one n q f = rw (← is, ne-eqb _ _ known, le-ltb (length bytes) (at + m) l, eq-eqb _ _ one, ← q) f
-
-      pub fault-flow : (getD bytes at 0 ≡ 1 → ⊥) → (f : Flow) → f ≡ flowAt bytes at → r ≡ flowFault d f → r ≡ fault bytes at d
-      unfolding fault
-      fault-flow other f q g = rw (← is, ne-eqb _ _ known, le-ltb (length bytes) (at + m) l, ne-eqb _ _ other, ← q) g
+  pub fault-flow : (getD bytes at 0 ≡ 1 → ⊥) → (f : Flow) → f ≡ flowAt bytes at → r ≡ flowFault d f → r ≡ fault bytes at d
+  unfolding laterFault
+  fault-flow other f q g = fault-later plans bytes at d m is known l r (rw (ne-eqb _ _ other, ← q) g)
 
 -- END at index `at`.
 module _ (size at : ℕ) (s : Site) where
+  -- What it comes to once it is judged.
+  abbrev judged : Outcome Site → Ruling × Site
+  judged o = withSite (judgeForm o)
+
   pub end-bare : s .links ≡ 0 → withSite (refused 9 at) ≡ withSite (judgeForm (endOf size at s))
-  unfolding endOf judgeForm
-  end-bare e = ap withSite (simp (eq-eqb _ _ e))
+  unfolding judgeForm
+  end-bare e = ap judged (sym (ended-bare size at (s .links) s e))
 
   pub end-more : (s .links ≡ 0 → ⊥) → at + 1 < size → withSite (refused 10 (at + 1)) ≡ withSite (judgeForm (endOf size at s))
-  unfolding endOf judgeForm
-  end-more n l = ap withSite (simp (ne-eqb _ _ n, lt-ltb _ _ l))
+  unfolding judgeForm
+  end-more n l = ap judged (sym (ended-more size at (s .links) s n l))
 
   pub end-last : (s .links ≡ 0 → ⊥) → size ≤ at + 1 → withSite (judgeOf s) ≡ withSite (judgeForm (endOf size at s))
-  unfolding endOf judgeForm
-  end-last n l = ap withSite (simp (ne-eqb _ _ n, le-ltb _ _ l))
+  unfolding judgeForm
+  end-last n l = ap judged (sym (ended-last size at (s .links) s n l))

@@ -11,10 +11,11 @@ use Rattle.pinwheel.specs.Outcome.{Outcome, Ruling, refused}
 use Rattle.schedule.specs.Judge.{withSite}
 use Rattle.site.specs.declared.Site.{Site}
 use Rattle.site.specs.Sites.{withFlow}
-use Rattle.reader.specs.Read.{Draft, fault, withNode, nodeAdded, flowAdded, decode, judgeForm, readOf}
+use Rattle.reader.specs.Read.{Draft, plans, fault, withNode, nodeAdded, flowAdded, decode, judgeForm, readOf}
 use Rattle.reader.specs.Inner.{Known}
 use Rattle.reader.proofs.Laws.Commands.{node-room, flow-number}
-use Rattle.reader.proofs.Laws.Decode.{decodeOn, decode-start, decode-out, decode-end, decode-stop, decode-node, decode-flow, fault-none, none-within, node-none, flow-none}
+use Rattle.format.proofs.Laws.Reading.{readOn, read-out, read-end, read-stop}
+use Rattle.reader.proofs.Laws.Decode.{decode-start, decode-node, decode-flow, fault-none, none-within, node-none, flow-none}
 use Rattle.reader.proofs.read_plan.Statement.{statement}
 use Rattle.reader.proofs.read_plan.Tie as tie
 
@@ -29,7 +30,7 @@ abbrev judged : Outcome Site → Ruling × Site
 judged o = withSite (judgeForm o)
 
 abbrev Inv-loop : tie.InvT-loop
-Inv-loop bytes site₀ next₀ at₀ site next at = decodeOn bytes at (reading site next) ≡ decode bytes
+Inv-loop bytes site₀ next₀ at₀ site next at = readOn plans bytes at (reading site next) ≡ decode bytes
 
 abbrev μ-loop : tie.MeasureT-loop
 μ-loop bytes site₀ next₀ at₀ site next at = length bytes - at
@@ -66,7 +67,7 @@ end-requires c κs = search needs
 returns : tie.Need-returns Inv-loop μ-loop
 unfolding readOf judgeForm
 returns c =
-    c .end .ensures ∙ ap judged (sym (decode-end _ _ _ (omega arith) (c .before .if1 .taken)) ∙ c .before .before .before .before .loop .inv)
+    c .end .ensures ∙ ap judged (sym (read-end plans _ _ _ (omega arith) (c .before .if1 .taken)) ∙ c .before .before .before .before .loop .inv)
 
 fault-at-requires : tie.Need-fault-at-requires Inv-loop μ-loop
 fault-at-requires c κs = search needs
@@ -80,7 +81,7 @@ returns-2 c = let asked = c .before .before in
     let is = asked .fault-at .ensures _ (known _ _) in
     let turn = asked .before .before .before .before .before .before in
     c .refusal .ensures ∙ ap judged (ap (λ (r : ℕ). refused r (turn .loop .at)) is
-    ∙ sym (decode-stop _ _ _ (omega arith) (asked .before .before .before .if1 .left) (λ z. c .before .if2 .taken (is ∙ z))) ∙ turn .loop .inv)
+    ∙ sym (read-stop plans _ _ _ (omega arith) (asked .before .before .before .if1 .left) (λ z. c .before .if2 .taken (is ∙ z))) ∙ turn .loop .inv)
 
 shared-slice-read-if3 : tie.Need-shared-slice-read-if3 Inv-loop μ-loop
 shared-slice-read-if3 c = search needs
@@ -164,7 +165,7 @@ refusal-requires-2 c κs = search needs
 
 returns-3 : tie.Need-returns-3 Inv-loop μ-loop
 unfolding readOf judgeForm
-returns-3 c = c .refusal2 .ensures ∙ ap judged (sym (decode-out _ _ _ (omega arith)) ∙ c .before .before .loop .inv)
+returns-3 c = c .refusal2 .ensures ∙ ap judged (sym (read-out plans _ _ _ (omega arith)) ∙ c .before .before .loop .inv)
 
 pub read-plan-spec : {M : Type 1} → statement M
 read-plan-spec =

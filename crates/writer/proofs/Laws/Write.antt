@@ -6,7 +6,7 @@ use mathlib.Core.List.{List, [], _∷_, _++_}
 use lib.Dec.{eqb}
 use lib.ListN.{length, getD, set, drop, length-append, drop-of-length-le}
 use lib.Seq.{sets, length-sets, sets-eq, drop-cons}
-use borrow.Author.Tests.{lt-ltb, le-ltb, eq-eqb, ne-eqb, not-true, not-false}
+use borrow.Author.Tests.{lt-ltb, le-ltb, eq-eqb, ne-eqb, eqb-false, not-true, not-false}
 use native.Mathlib.Nat.{zero-add, mul-suc}
 use native.Mathlib.Numerals.{add-one}
 use native.Mathlib.Omega.{arith}
@@ -15,11 +15,11 @@ use Rattle.site.specs.declared.Site.{Site}
 use Rattle.site.specs.Sites.{live}
 use Rattle.format.specs.Bytes.{bytesOf}
 use Rattle.format.specs.Commands.{sizeOf, scheduleSize}
-use Rattle.limits.specs.Check.{passesOf}
-use Rattle.writer.specs.Write.{nodeCommand, nodeBytes, flowCommand, flowBytes, linkCommand, linkBytes, flowIfLive, commandBytes, planBytes, scheduleBytes, written, encoded, siteFault, writtenIf}
+use Rattle.schedule_file.specs.declared.Schedule.{Schedule}
+use Rattle.writer.specs.Write.{nodeCommand, nodeBytes, flowCommand, flowBytes, linkCommand, linkBytes, flowIfLive, commandBytes, planBytes, scheduleBytes, written, encoded, handedFault, writtenUnless}
 use Rattle.pinwheel.specs.Search.{joined}
 use Rattle.pinwheel.proofs.Laws.Items.{joined-next}
-use Rattle.limits.proofs.Laws.Check.{passes-few}
+use Rattle.pinwheel.proofs.Laws.Choices.{passed}
 
 sets-append : (d : List ℕ) (at : ℕ) (xs ys : List ℕ) → sets d at (xs ++ ys) ≡ sets (sets d at xs) (at + length xs) ys
 sets-append d at [] ys = let e : at + 0 ≡ at = omega arith in rw e
@@ -93,7 +93,7 @@ entries-from xs (suc r) i e = rw (entries-from xs r (i + 1) (omega arith), drop-
 pub entries : (xs : List ℕ) (n : ℕ) → length xs ≡ n → joined (entry xs) n 0 ≡ xs
 entries xs n e = entries-from xs n 0 (omega arith)
 
--- A command of a site's own entries.
+-- A command of the own entries of a site or a schedule.
 pub node-made : (s : Site) (i : ℕ) → nodeCommand (getD (s .parents) i 0) (getD (s .capacities) i 0) (getD (s .gaps) i 0) ≡ nodeBytes s i
 unfolding nodeBytes
 node-made s i = refl
@@ -102,9 +102,9 @@ pub flow-made : (s : Site) (n : ℕ) → flowCommand n (getD (s .entries) n 0) (
 unfolding flowBytes
 flow-made s n = refl
 
-pub link-made : (offsets periods : List ℕ) (i : ℕ) → linkCommand (i + 1) (getD offsets i 0) (getD periods i 0) ≡ linkBytes offsets periods i
+pub link-made : (s : Schedule) (i : ℕ) → linkCommand (i + 1) (getD (s .offsets) i 0) (getD (s .periods) i 0) ≡ linkBytes s i
 unfolding linkBytes
-link-made offsets periods i = refl
+link-made s i = refl
 
 -- Each command takes the bytes of its size.
 pub node-size : (s : Site) (i : ℕ) → length (nodeBytes s i) ≡ sizeOf 1
@@ -115,9 +115,9 @@ pub flow-size : (s : Site) (n : ℕ) → length (flowBytes s n) ≡ sizeOf 2
 unfolding flowBytes bytesOf sizeOf
 flow-size s n = refl
 
-pub link-size : (offsets periods : List ℕ) (i : ℕ) → length (linkBytes offsets periods i) ≡ scheduleSize 17
+pub link-size : (s : Schedule) (i : ℕ) → length (linkBytes s i) ≡ scheduleSize 17
 unfolding linkBytes bytesOf scheduleSize
-link-size offsets periods i = refl
+link-size s i = refl
 
 -- The bytes of a flow where it is live; a number that is not has none.
 module _ (s : Site) (n : ℕ) where
@@ -208,65 +208,62 @@ module _ (s : Site) where
       let k : end ≡ length (nodes ++ flows) = simp length-append (omega arith) in
       rw (sets-append out 0 (nodes ++ flows) (255 ∷ []), sets-append out 0 nodes flows, zero-add (length nodes), zero-add (length (nodes ++ flows)), ← p, ← n, ← q, ← k)
 
--- 63 LINKs at most.
-pub links-few : (m n : ℕ) → m ≡ scheduleSize 17 → n ≤ 63 → m * n ≤ 378
-unfolding scheduleSize
-links-few m n is few = rw is (omega arith)
-
 -- A schedule: links, FF.
-module _ (offsets periods : List ℕ) (n : ℕ) where
+module _ (s : Schedule) where
   -- m stands for the size of a LINK.
   module _ (m : ℕ) (is : m ≡ scheduleSize 17) where
-    pub links-size : m * n ≡ length (joined (linkBytes offsets periods) n 0)
-    links-size = rw is (sym (sized-each (linkBytes offsets periods) (scheduleSize 17) (link-size offsets periods) n 0))
+    pub links-few : s .links ≤ 63 → m * s .links ≤ 378
+    unfolding scheduleSize
+    links-few few = rw is (omega arith)
 
-    pub schedule-size : m * n + 1 ≡ length (scheduleBytes n offsets periods)
+    pub links-size : m * s .links ≡ length (joined (linkBytes s) (s .links) 0)
+    links-size = rw is (sym (sized-each (linkBytes s) (scheduleSize 17) (link-size s) (s .links) 0))
+
+    pub schedule-size : m * s .links + 1 ≡ length (scheduleBytes s)
     unfolding scheduleBytes
     schedule-size = simp (length-append, ← links-size)
 
-  pub schedule-stored : (out a : List ℕ) (end : ℕ) → a ≡ sets out 0 (joined (linkBytes offsets periods) n 0)
-      → end ≡ length (joined (linkBytes offsets periods) n 0) → set a end 255 ≡ sets out 0 (scheduleBytes n offsets periods)
+  pub schedule-stored : (out a : List ℕ) (end : ℕ) → a ≡ sets out 0 (joined (linkBytes s) (s .links) 0)
+      → end ≡ length (joined (linkBytes s) (s .links) 0) → set a end 255 ≡ sets out 0 (scheduleBytes s)
   unfolding scheduleBytes
-  schedule-stored out a end p e = rw (sets-append out 0 (joined (linkBytes offsets periods) n 0) (255 ∷ []), zero-add, ← p, ← e)
+  schedule-stored out a end p e = rw (sets-append out 0 (joined (linkBytes s) (s .links) 0) (255 ∷ []), zero-add, ← p, ← e)
 
--- The checks of a site handed to a writer.
-module _ (s : Site) (t : Bool) (passes : t ≡ passesOf s) where
-  pub fault-ill : not t ≡ true → 14 ≡ siteFault s
-  unfolding siteFault
-  fault-ill e = rw (← passes, not-true t e)
+-- The checks of what is handed to a writer.
+module _ (t : Bool) (links : ℕ) where
+  pub fault-ill : not t ≡ true → 14 ≡ handedFault t links
+  unfolding handedFault
+  fault-ill e = rw (not-true t e)
 
-  pub fault-bare : not t ≡ false → s .links ≡ 0 → 9 ≡ siteFault s
-  unfolding siteFault
-  fault-bare e z = rw (← passes, not-false t e, z)
+  pub fault-bare : not t ≡ false → links ≡ 0 → 9 ≡ handedFault t links
+  unfolding handedFault
+  fault-bare e z = rw (not-false t e, z)
 
-  pub fault-neither : not t ≡ false → (s .links ≡ 0 → ⊥) → 0 ≡ siteFault s
-  unfolding siteFault
-  fault-neither e n = rw (← passes, not-false t e, ne-eqb _ _ n)
+  pub fault-neither : not t ≡ false → (links ≡ 0 → ⊥) → 0 ≡ handedFault t links
+  unfolding handedFault
+  fault-neither e n = rw (not-false t e, ne-eqb _ _ n)
 
--- A site that fails neither has 63 links at most.
-pub fault-few : (s : Site) → siteFault s ≡ 0 → s .links ≤ 63
-unfolding siteFault
-fault-few s e = go (passesOf s) refl e
-  where
-    go : (t : Bool) → passesOf s ≡ t → _≡_ {A = ℕ} (cond t (cond (eqb (s .links) 0) 9 0) 14) 0 → s .links ≤ 63
-    go true p q = passes-few s p
-    go false p q = absurd (omega arith)
+-- What passes 14 and fails neither check has links.
+pub fault-passed : (t : Bool) (links : ℕ) → handedFault t links ≡ 0 → (t ≡ true) × (1 ≤ links)
+unfolding handedFault
+fault-passed true links e = let b = passed (eqb links 0) 9 0 (omega arith) e in let n : links ≡ 0 → ⊥ = eqb-false _ _ (b .0) in (refl, omega arith)
+fault-passed false links e = absurd (omega arith)
 
 -- The answers without the two checks, and with them.
-module _ (s : Site) (bytes out : List ℕ) where
-  pub encoded-many : 63 < s .links → (refused 14 0, out) ≡ encoded s bytes out
+module _ (links : ℕ) (bytes out : List ℕ) where
+  pub encoded-many : 63 < links → (refused 14 0, out) ≡ encoded links bytes out
   unfolding encoded
   encoded-many l = rw (lt-ltb _ _ l)
 
-  pub encoded-few : s .links ≤ 63 → (a : Outcome ℕ × List ℕ) → a ≡ written bytes out → a ≡ encoded s bytes out
+  pub encoded-few : links ≤ 63 → (a : Outcome ℕ × List ℕ) → a ≡ written bytes out → a ≡ encoded links bytes out
   unfolding encoded
   encoded-few l a q = q ∙ rw (le-ltb _ _ l)
 
-  module _ (f : ℕ) (is : f ≡ siteFault s) where
-    pub written-faulty : (f ≡ 0 → ⊥) → (refused f 0, out) ≡ writtenIf s bytes out
-    unfolding writtenIf
-    written-faulty n = rw (← is, ne-eqb _ _ n)
+  -- t says whether 14 lets pass, which nothing with more than 63 links does.
+  module _ (t : Bool) (few : t ≡ true → links ≤ 63) (f : ℕ) (is : f ≡ handedFault t links) where
+    pub written-well : (a : Outcome ℕ × List ℕ) → f ≡ 0 → a ≡ encoded links bytes out → a ≡ writtenUnless (handedFault t links) bytes out
+    unfolding writtenUnless encoded
+    written-well a z q = q ∙ rw (le-ltb _ _ (few (fault-passed t links (sym is ∙ z) .0)), ← is, eq-eqb _ _ z)
 
-    pub written-well : (a : Outcome ℕ × List ℕ) → f ≡ 0 → a ≡ encoded s bytes out → a ≡ writtenIf s bytes out
-    unfolding writtenIf encoded
-    written-well a z q = q ∙ rw (le-ltb _ _ (fault-few s (sym is ∙ z)), ← is, eq-eqb _ _ z)
+pub written-faulty : (bytes out : List ℕ) (f fault : ℕ) → f ≡ fault → (f ≡ 0 → ⊥) → (refused f 0, out) ≡ writtenUnless fault bytes out
+unfolding writtenUnless
+written-faulty bytes out f fault is n = rw (← is, ne-eqb _ _ n)

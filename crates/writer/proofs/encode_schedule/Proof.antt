@@ -1,4 +1,4 @@
--- Right because the site has entries for all of its links where it has 63 at most.
+-- Right because the schedule has entries for all of its links where it has 63 at most.
 use borrow.Author.Needs.{needs}
 use Rattle.writer.proofs.Laws.Write.{encoded-many, encoded-few}
 use Rattle.writer.proofs.encode_schedule.Statement.{statement}

@@ -1,0 +1,187 @@
+// Schedules by value, the reading of their files, and check 14 of one that is handed in.
+use schedule::Verdict;
+ghost use mathlib.Core.Path.{_≡_};
+ghost use Prim.Native.Nat.{_+_, _<_};
+ghost use lib.ListN.{length};
+ghost use Rattle.pinwheel.specs.Outcome.{refused};
+ghost use Rattle.schedule.specs.Judge.{ruling};
+ghost use Rattle.schedule_file.specs.Read.{withoutLinks, withLinks, linkAt, outOfOrder, badSlots, linkFault, endOf, scheduleRead};
+ghost use Rattle.schedule_file.specs.Read.{fault};
+ghost use Rattle.schedule_file.specs.Check.{illLink, schedulePasses};
+
+// How many links there are, and when each sends: link n at index n - 1. Entries past the last link are 0.
+pub struct Schedule {
+    pub links: u8,
+    pub offsets: [u16; 63],
+    pub periods: [u16; 63],
+}
+
+// The operands of a LINK.
+pub struct Link {
+    pub node: u8,
+    pub offset: u16,
+    pub period: u16,
+}
+
+// The verdict of a reading, and the schedule that it gives.
+pub struct Reading {
+    pub verdict: Verdict,
+    pub schedule: Schedule,
+}
+
+pub fn without_links() -> Schedule
+    ensures { λ r. ⌜ r ≡ withoutLinks ⌝ }
+{
+    Schedule {
+        links: 0,
+        offsets: [0; 63],
+        periods: [0; 63],
+    }
+}
+
+// 01: a refusal comes with the schedule without links.
+fn refusal(number: u8, place: usize) -> Reading
+    ensures { λ r. ⌜ (ruling (r .verdict), r .schedule) ≡ withLinks (refused number place) ⌝ }
+{
+    Reading {
+        verdict: Verdict::Refused(number, place),
+        schedule: without_links(),
+    }
+}
+
+// Whether a LINK behind so many others has not the next number, or there is none left.
+fn out_of_order(links: u8, node: u8) -> bool
+    ensures { λ r. ⌜ r ≡ outOfOrder links node ⌝ }
+{
+    if 63 <= links {
+        return true;
+    }
+    node != links + 1
+}
+
+fn bad_slots(offset: u16, period: u16) -> bool
+    ensures { λ r. ⌜ r ≡ badSlots offset period ⌝ }
+{
+    if period < 1 {
+        return true;
+    }
+    if 1024 < period {
+        return true;
+    }
+    period <= offset
+}
+
+// 21 and 22 for a LINK behind so many others.
+fn link_fault(links: u8, link: Link) -> u8
+    ensures { λ r. ⌜ r ≡ linkFault links link ⌝ }
+{
+    let order = out_of_order(links, link.node);
+    let slots = bad_slots(link.offset, link.period);
+    if order {
+        return 21;
+    }
+    if slots {
+        return 22;
+    }
+    0
+}
+
+// The operands of the LINK at index `at`.
+fn link_at(bytes: &[u8], at: usize) -> Link
+    requires { ⌜ at + 5 < length (now bytes) ⌝ }
+    ensures { λ r. ⌜ r ≡ linkAt (now (bytes .entry)) at ⌝ }
+{
+    Link {
+        node: bytes[at + 1],
+        offset: format::word(bytes[at + 2], bytes[at + 3]),
+        period: format::word(bytes[at + 4], bytes[at + 5]),
+    }
+}
+
+// The first check that the command at index `at` fails behind so many links, 0 where it fails none. It is not END.
+fn fault_at(bytes: &[u8], at: usize, links: u8) -> u8
+    requires { ⌜ at < length (now bytes) ⌝ }
+    ensures { λ r. ⌜ ((s : Schedule) → s .links ≡ links → r ≡ fault (now (bytes .entry)) at s) ⌝ }
+{
+    let size = format::schedule_size(bytes[at]);
+    let left = bytes.len() - at;
+    if size == 0 {
+        return 3;
+    }
+    if left < size {
+        return 2;
+    }
+    link_fault(links, link_at(bytes, at))
+}
+
+// END at index `at`: 9 and 10.
+fn end(size: usize, at: usize, schedule: Schedule) -> Reading
+    requires { ⌜ at < size ⌝ }
+    ensures { λ r. ⌜ (ruling (r .verdict), r .schedule) ≡ withLinks (endOf size at schedule) ⌝ }
+{
+    if schedule.links == 0 {
+        return refusal(9, at);
+    }
+    if at + 1 < size {
+        return refusal(10, at + 1);
+    }
+    Reading {
+        verdict: Verdict::Accepted,
+        schedule,
+    }
+}
+
+// The schedule that the bytes stand for, or a refusal with the one without links.
+pub fn read_schedule(bytes: &[u8]) -> Reading
+    ensures { λ r. ⌜ (ruling (r .verdict), r .schedule) ≡ withLinks (scheduleRead (now (bytes .entry))) ⌝ }
+{
+    let mut schedule = without_links();
+    let mut at = 0;
+    while at < bytes.len() {
+        if bytes[at] == 255 {
+            return end(bytes.len(), at, schedule);
+        }
+        let fault = fault_at(bytes, at, schedule.links);
+        if fault != 0 {
+            return refusal(fault, at);
+        }
+        let link = link_at(bytes, at);
+        let i = schedule.links as usize;
+        schedule.offsets[i] = link.offset;
+        schedule.periods[i] = link.period;
+        schedule.links += 1;
+        at += format::schedule_size(bytes[at]);
+    }
+    refusal(2, bytes.len())
+}
+
+// The entries at index i of a schedule with so many links are not as they should be.
+fn ill_link(links: u8, i: usize, offset: u16, period: u16) -> bool
+    ensures { λ r. ⌜ r ≡ illLink links i offset period ⌝ }
+{
+    if i < links as usize {
+        return bad_slots(offset, period);
+    }
+    if offset != 0 {
+        return true;
+    }
+    period != 0
+}
+
+// Check 14 of a schedule.
+pub fn passes(schedule: Schedule) -> bool
+    ensures { λ r. ⌜ r ≡ schedulePasses schedule ⌝ }
+{
+    let links = schedule.links;
+    if 63 < links {
+        return false;
+    }
+    let mut i = 0;
+    while i < 63 {
+        if ill_link(links, i, schedule.offsets[i], schedule.periods[i]) {
+            return false;
+        }
+        i += 1;
+    }
+    true
+}
