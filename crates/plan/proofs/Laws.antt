@@ -1,20 +1,23 @@
 -- What is proved of plans: when bytes are accepted and what refuses them, that bytes and sites turn into each other without change, and that check 14
--- is exact. The modules named here hold the lemmas.
+-- is exact; then the same of schedules. The modules named here hold the lemmas.
 pub mod Lists
 pub mod Small
 pub mod Drafts
 pub mod FromBytes
 pub mod FromSites
 pub mod Faults
-pub mod Acceptance
+pub mod Files
 pub mod Refusals
+pub mod Acceptance
+pub mod Schedules
+pub mod SiteSchedules
 pub mod Near
 use Prim.Native.Nat.{ℕ, _+_, _≤_}
 use mathlib.Core.Path.{_≡_, refl, sym, _∙_, ap}
 use mathlib.Core.Bool.{true}
 use mathlib.Core.List.{List, _++_}
 use mathlib.Core.Logic.{_⊎_, inl, inr, ⊎-elim, _↔_}
-use lib.ListN.{length, drop}
+use lib.ListN.{length, take, drop}
 use borrow.Author.Tests.{le-ltb, ne-eqb}
 use native.Mathlib.Omega.{arith}
 use Rattle.pinwheel.specs.Outcome.{accepted, refused}
@@ -33,12 +36,20 @@ use Rattle.limits.proofs.Laws.Empty.{empty-passes, linkless-empty}
 use Rattle.format.specs.Commands.{sizeOf}
 use Rattle.format.specs.Words.{Bytes}
 use Rattle.reader.specs.Read.{readOf}
-use Rattle.writer.specs.Write.{planBytes, written, handedFault, writtenUnless, writtenIf}
-use Rattle.writer.proofs.Laws.Write.{plan-size, nodes-few, flows-few}
+use Rattle.schedule_file.specs.declared.Schedule.{Schedule}
+use Rattle.schedule_file.specs.Read.{withoutLinks, scheduleRead}
+use Rattle.schedule_file.specs.Check.{schedulePasses}
+use Rattle.schedule_file.proofs.Laws.{passes-listed}
+use Rattle.writer.specs.Write.{planBytes, scheduleOf, scheduleBytes, written, handedFault, siteFault, scheduleFault, writtenUnless, writtenIf, scheduleWritten}
+use Rattle.writer.proofs.Laws.{written-accepted}
+use Rattle.writer.proofs.Laws.Write.{plan-size, nodes-few, flows-few, fault-passed}
 use Rattle.plan.specs.Words.{InForm, FormFails}
-use Rattle.plan.proofs.Laws.Small.{plan-small}
+use Rattle.plan.specs.ScheduleWords.{ScheduleInForm, ScheduleFails}
+use Rattle.plan.proofs.Laws.Small.{plan-small, schedule-small}
 use Rattle.plan.proofs.Laws.Acceptance.{read-form, read-plan, plan-scheduled, read-judged, read-refused}
 use Rattle.plan.proofs.Laws.Refusals.{decode-fails}
+use Rattle.plan.proofs.Laws.Schedules.{without-listed, listed-without, schedule-why, schedule-form, schedule-read}
+use Rattle.plan.proofs.Laws.SiteSchedules.{site-listed}
 
 -- 01's demand 2. Bytes are read to a site just when they are in form and limits, under every parent with children some base fits, on every link
 -- the widths sum to at most the capacity, and for every flow the judged gaps sum to at most the deadline; the site is then these nodes
@@ -123,3 +134,66 @@ passes-when s = (
   ⊎-elim (λ e. rw e empty-passes)
       (λ v. let w = read-form (v .0) (v .1) s (v .2) in ap (λ (t : Site). passesOf t) (w .3) ∙ judged-passes (w .0) (w .1 .formed) (w .2)),
 )
+
+-- 02, U1. Schedule bytes are read to a schedule just when they are the LINKs of at least one link, all within their limits, and END.
+pub schedule-accepted-when : (bytes : List ℕ) → Bytes bytes → (s : Schedule) → (scheduleRead bytes ≡ accepted s) ↔ ScheduleInForm bytes s
+schedule-accepted-when bytes small s = (schedule-form bytes small s, λ w. rw (w .are) (schedule-read s (w .listed) (w .some)))
+
+-- Refused: all commands before the place passed their checks, and of the checks of the command there, or of the end, this is the first in 02's order that fails.
+pub schedule-refused : (bytes : List ℕ) → Bytes bytes → (number place : ℕ) → (scheduleRead bytes ≡ refused number place) ↔ ScheduleFails bytes number place
+schedule-refused bytes small number place = schedule-why bytes small number place
+
+-- Bytes to schedule to bytes, and back: of a schedule that passes its check, and of a site's.
+pub schedule-read-written : (bytes : List ℕ) (s : Schedule) → Bytes bytes → scheduleRead bytes ≡ accepted s → scheduleBytes s ≡ bytes
+schedule-read-written bytes s small e = sym (schedule-form bytes small s e .are)
+
+pub schedule-written-read : (s : Schedule) → schedulePasses s ≡ true → 1 ≤ s .links → Bytes (scheduleBytes s) × (scheduleRead (scheduleBytes s) ≡ accepted s)
+schedule-written-read s e some = let g = passes-listed s .0 e in (schedule-small s (g .few), schedule-read s g some)
+
+pub site-schedule-read : (s : Site) → passesOf s ≡ true → 1 ≤ s .links
+    → (schedulePasses (scheduleOf s) ≡ true) × (scheduleRead (scheduleBytes (scheduleOf s)) ≡ accepted (scheduleOf s))
+unfolding scheduleOf
+site-schedule-read s e some = let g = site-listed s e in (passes-listed (scheduleOf s) .1 g, schedule-read (scheduleOf s) g some)
+
+-- No two byte strings read to one schedule.
+pub schedule-read-once : (bytes others : List ℕ) (s : Schedule) → Bytes bytes → Bytes others → scheduleRead bytes ≡ accepted s → scheduleRead others ≡ accepted s
+    → bytes ≡ others
+schedule-read-once bytes others s small small′ e f = sym (schedule-read-written bytes s small e) ∙ schedule-read-written others s small′ f
+
+-- 14 of a schedule lets pass just the one without links and those that some file reads to.
+pub schedule-passes-when : (s : Schedule)
+    → (schedulePasses s ≡ true) ↔ ((s ≡ withoutLinks) ⊎ ((bytes : List ℕ) × Bytes bytes × (scheduleRead bytes ≡ accepted s)))
+schedule-passes-when s = (
+  λ e. ⊎-elim (λ some. let v = schedule-written-read s e some in inr (scheduleBytes s, v .0, v .1))
+      (λ none. inl (listed-without s (passes-listed s .0 e) (omega arith))) (lt-or-le 0 (s .links)),
+  ⊎-elim (λ e. rw e (passes-listed withoutLinks .1 without-listed))
+      (λ v. passes-listed s .1 (schedule-form (v .0) (v .1) s (v .2) .listed)),
+)
+
+-- A file that the writer made, from a schedule or from a site, reads back to the schedule that made it; what stood behind it in the slice stands there still.
+pub schedule-made : (s : Schedule) (out new : List ℕ) (size : ℕ) → scheduleWritten s out ≡ (accepted size, new)
+    → (scheduleRead (take size new) ≡ accepted s) × (drop size new ≡ drop size out)
+schedule-made s out new size e =
+    let w = written-accepted (scheduleFault s) (scheduleBytes s) out new size e in
+    let p = fault-passed (schedulePasses s) (s .links) (w .0) in
+    (ap scheduleRead (w .2) ∙ schedule-written-read s (p .0) (p .1) .1, w .3)
+
+pub site-schedule-made : (s : Site) (out new : List ℕ) (size : ℕ) → writtenIf s (scheduleBytes (scheduleOf s)) out ≡ (accepted size, new)
+    → (scheduleRead (take size new) ≡ accepted (scheduleOf s)) × (drop size new ≡ drop size out)
+site-schedule-made s out new size e =
+    let w = written-accepted (siteFault s) (scheduleBytes (scheduleOf s)) out new size e in
+    let p = fault-passed (passesOf s) (s .links) (w .0) in
+    (ap scheduleRead (w .2) ∙ site-schedule-read s (p .0) (p .1) .1, w .3)
+
+-- A file that is accepted is written again to equal bytes, wherever there is room for them.
+pub schedule-again : (bytes : List ℕ) (s : Schedule) → Bytes bytes → scheduleRead bytes ≡ accepted s → (out : List ℕ) → length bytes ≤ length out
+    → scheduleWritten s out ≡ (accepted (length bytes), bytes ++ drop (length bytes) out)
+unfolding handedFault writtenUnless written
+schedule-again bytes s small e out room =
+    let w = schedule-form bytes small s e in
+    simp (passes-listed s .1 (w .listed), ne-eqb (s .links) 0 (omega (arith, w .some)), ← w .are, le-ltb _ _ room)
+
+-- The site's writer and the schedule's write the same bytes.
+pub schedule-alike : (s : Site) (out : List ℕ) → passesOf s ≡ true → 1 ≤ s .links → scheduleWritten (scheduleOf s) out ≡ writtenIf s (scheduleBytes (scheduleOf s)) out
+unfolding scheduleOf
+schedule-alike s out e some = rw (e, site-schedule-read s e some .0)

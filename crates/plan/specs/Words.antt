@@ -1,4 +1,4 @@
--- Plan bytes in words of 'for all' and 'exists': when they are in form, and what refuses them. The laws of proofs/Laws.antt say that a reading means this.
+-- Plan bytes in words of 'for all' and 'exists': when they are in form, and what refuses them; a schedule's are in ScheduleWords.antt. The laws of proofs/Laws.antt say that a reading means this.
 use Prim.Native.Nat.{ℕ, _+_, _≤_, _<_}
 use mathlib.Core.Path.{_≡_}
 use mathlib.Core.Bool.{true}
@@ -71,16 +71,21 @@ commandChecks bytes at s =
     (check 2 (length bytes < at + sizeOf (getD bytes at 0))
     (laterChecks bytes at s))
 
--- What refuses the form of the bytes with this number and place. END is the byte FF.
-pub data FormFails (bytes : List ℕ) (number place : ℕ) : Type 0 where
+-- What refuses the form of a file with this number and place. `Begun at s` says that the commands before index `at` are those of s and passed their checks, `checks
+-- at s` are the checks of a command behind them, and `links s` is how many links they make. END is the byte FF.
+pub data FileFails {S : Type 0} (Begun : ℕ → S → Type 0) (checks : ℕ → S → Checks) (links : S → ℕ) (bytes : List ℕ) (number place : ℕ) : Type 0 where
   -- 01, 2: the bytes end behind the commands of s, without END.
-  no-end : (s : Site) → Begun bytes place s → place ≡ length bytes → number ≡ 2 → FormFails bytes number place
+  no-end : (s : S) → Begun place s → place ≡ length bytes → number ≡ 2 → FileFails Begun checks links bytes number place
   -- A command that is not END fails this check first.
-  command : (s : Site) → Begun bytes place s → place < length bytes → (getD bytes place 0 ≡ 255 → ⊥)
-      → FirstOf (commandChecks bytes place s) number → FormFails bytes number place
-  -- 01, 9: END, and no NODE before it.
-  bare-end : (s : Site) → Begun bytes place s → place < length bytes → getD bytes place 0 ≡ 255 → s .links ≡ 0 → number ≡ 9
-      → FormFails bytes number place
-  -- 01, 10: END behind a NODE, and a byte after it.
-  more : (s : Site) (at : ℕ) → Begun bytes at s → getD bytes at 0 ≡ 255 → 1 ≤ s .links → place ≡ at + 1 → place < length bytes → number ≡ 10
-      → FormFails bytes number place
+  command : (s : S) → Begun place s → place < length bytes → (getD bytes place 0 ≡ 255 → ⊥)
+      → FirstOf (checks place s) number → FileFails Begun checks links bytes number place
+  -- 01, 9: END, and no link before it.
+  bare-end : (s : S) → Begun place s → place < length bytes → getD bytes place 0 ≡ 255 → links s ≡ 0 → number ≡ 9
+      → FileFails Begun checks links bytes number place
+  -- 01, 10: END behind a link, and a byte after it.
+  more : (s : S) (at : ℕ) → Begun at s → getD bytes at 0 ≡ 255 → 1 ≤ links s → place ≡ at + 1 → place < length bytes → number ≡ 10
+      → FileFails Begun checks links bytes number place
+
+-- What refuses the form of a plan.
+abbrev pub FormFails : List ℕ → ℕ → ℕ → Type 0
+FormFails bytes number place = FileFails (Begun bytes) (commandChecks bytes) (λ s. s .links) bytes number place

@@ -24,7 +24,7 @@ use Rattle.plan.specs.Words.{Checks, none, check, FirstOf, IsNode, IsFlo
 use Rattle.plan.proofs.Laws.Drafts.{NextOf}
 
 -- A check by its test.
-first-check : (t : Bool) (m rest n : ℕ) (fails : Type 0) (cs : Checks) → ((t ≡ true) ↔ fails) → (t ≡ false → (rest ≡ n) ↔ FirstOf cs n)
+pub first-check : (t : Bool) (m rest n : ℕ) (fails : Type 0) (cs : Checks) → ((t ≡ true) ↔ fails) → (t ≡ false → (rest ≡ n) ↔ FirstOf cs n)
     → (cond t m rest ≡ n) ↔ FirstOf (check m fails cs) n
 unfolding FirstOf
 first-check true m rest n fails cs w r =
@@ -38,11 +38,11 @@ unfolding FirstOf
 first-pass m rest n fails cs w r = (λ e. inr (w, r .0 e), ⊎-elim (λ f. absurd (w (f .1))) (λ f. r .1 (f .1)))
 
 -- No check is left.
-first-of-none : (n : ℕ) → FirstOf none n → ⊥
+pub first-of-none : (n : ℕ) → FirstOf none n → ⊥
 unfolding FirstOf
 first-of-none n f = f
 
-first-none : (n : ℕ) → (n ≡ 0 → ⊥) → (0 ≡ n) ↔ FirstOf none n
+pub first-none : (n : ℕ) → (n ≡ 0 → ⊥) → (0 ≡ n) ↔ FirstOf none n
 first-none n some = (λ e. absurd (some (sym e)), λ f. absurd (first-of-none n f))
 
 -- A FLOW has been read, or one from number k on, just when a flow is live, or one from k on.
@@ -126,12 +126,15 @@ module _ (bytes : List ℕ) (at : ℕ) (d : Draft) (w : NextOf (d .site) (d .nex
       kind (inl one) = rw (eq-eqb _ _ one) (node-first one)
       kind (inr two) = let o : getD bytes at 0 ≡ 1 → ⊥ = omega arith in rw (ne-eqb _ _ o) (flow-first two)
 
--- No check has the number 0.
-first-above : (m n : ℕ) (fails : Type 0) (cs : Checks) → (m ≡ 0 → ⊥) → (FirstOf cs n → n ≡ 0 → ⊥) → FirstOf (check m fails cs) n → n ≡ 0 → ⊥
+-- The numbers of checks are above 0 and at most so large.
+pub first-within : (most m n : ℕ) (fails : Type 0) (cs : Checks) → 1 ≤ m → m ≤ most → (FirstOf cs n → (1 ≤ n) × (n ≤ most))
+    → FirstOf (check m fails cs) n → (1 ≤ n) × (n ≤ most)
 unfolding FirstOf
-first-above m n fails cs some r f z = ⊎-elim (λ a. some (a .0 ∙ z)) (λ a. r (a .1) z) f
+first-within most m n fails cs some few rest = ⊎-elim (λ a. (omega (arith, a .0), omega (arith, a .0))) (λ a. rest (a .1))
 
-pub first-some : (bytes : List ℕ) (at : ℕ) (s : Site) (n : ℕ) → FirstOf (commandChecks bytes at s) n → n ≡ 0 → ⊥
-first-some bytes at s n =
-    first-above 3 n _ _ (omega arith) (first-above 2 n _ _ (omega arith) (first-above 4 n _ _ (omega arith) (first-above 7 n _ _ (omega arith)
-    (first-above 5 n _ _ (omega arith) (first-above 6 n _ _ (omega arith) (first-above 8 n _ _ (omega arith) (λ f z. first-of-none n f)))))))
+pub first-numbers : (bytes : List ℕ) (at : ℕ) (s : Site) (n : ℕ) → FirstOf (commandChecks bytes at s) n → (1 ≤ n) × (n ≤ 8)
+first-numbers bytes at s n =
+    first-within 8 3 n _ _ (omega arith) (omega arith) (first-within 8 2 n _ _ (omega arith) (omega arith)
+    (first-within 8 4 n _ _ (omega arith) (omega arith) (first-within 8 7 n _ _ (omega arith) (omega arith)
+    (first-within 8 5 n _ _ (omega arith) (omega arith) (first-within 8 6 n _ _ (omega arith) (omega arith)
+    (first-within 8 8 n _ _ (omega arith) (omega arith) (λ f. absurd (first-of-none n f))))))))

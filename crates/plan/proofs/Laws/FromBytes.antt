@@ -83,11 +83,11 @@ module _ (d : Draft) (g : Drafted d) where
       )
 
 module _ (bytes : List ℕ) where
-  byte : (at next : ℕ) → at + 1 ≡ next → next ≤ length bytes → drop at bytes ≡ numberAt 1 bytes at ∷ drop next bytes
+  pub byte : (at next : ℕ) → at + 1 ≡ next → next ≤ length bytes → drop at bytes ≡ numberAt 1 bytes at ∷ drop next bytes
   byte at next e h = let q : suc at ≡ next = omega arith in rw (number-one bytes at, drop-cons bytes at 0 (omega arith), q)
 
   module _ (small : Bytes bytes) where
-    word : (at next : ℕ) → at + 2 ≡ next → next ≤ length bytes → drop at bytes ≡ bytesOf 2 (numberAt 2 bytes at) ++ drop next bytes
+    pub word : (at next : ℕ) → at + 2 ≡ next → next ≤ length bytes → drop at bytes ≡ bytesOf 2 (numberAt 2 bytes at) ++ drop next bytes
     word at next e h =
         rw (bytes-number 2 bytes at small (omega arith), ← e, ← drop-drop 2 at bytes) (sym (take-append-drop 2 (drop at bytes)))
 

@@ -15,14 +15,18 @@ use Rattle.site.specs.Sites.{used}
 use Rattle.site.specs.Reservations.{firstOver, firstLate}
 use Rattle.schedule.specs.Schedule.{firstCrowded, scheduled}
 use Rattle.schedule.specs.Judge.{reserved, judgeOf}
-use Rattle.format.specs.Commands.{sizeOf}
+use Rattle.format.specs.Commands.{sizeOf, scheduleSize}
 use Rattle.format.specs.Words.{Bytes}
 use Rattle.reader.specs.Read.{decode, judgeForm, readOf}
 use Rattle.writer.specs.Write.{commandBytes, planBytes}
-use Rattle.writer.proofs.Laws.Write.{plan-size, nodes-few, flows-few}
+use Rattle.schedule_file.specs.declared.Schedule.{Schedule}
+use Rattle.schedule_file.specs.Read.{scheduleRead}
+use Rattle.writer.proofs.Laws.Write.{plan-size, nodes-few, flows-few, links-size, links-few}
 use Rattle.plan.specs.Words.{Begun, FormFails, no-end, command, bare-end, more}
-use Rattle.plan.proofs.Laws.Faults.{first-some}
+use Rattle.plan.specs.ScheduleWords.{ScheduleBegun, ScheduleFails}
+use Rattle.plan.proofs.Laws.Faults.{first-numbers}
 use Rattle.plan.proofs.Laws.Refusals.{decode-fails}
+use Rattle.plan.proofs.Laws.Schedules.{check-numbers, schedule-why}
 
 -- Every refusal has a number other than 0, and its place is at most k.
 abbrev pub Near : {A : Type 0} → ℕ → Outcome A → Type 0
@@ -73,7 +77,7 @@ begun-near bytes at s w =
 form-near : (bytes : List ℕ) (number place : ℕ) → FormFails bytes number place → (1 ≤ number) × (place ≤ 763)
 form-near bytes number place (no-end s w e n) = (omega arith, omega (arith, begun-near bytes place s w))
 form-near bytes number place (command s w l t f) =
-    let some : number ≡ 0 → ⊥ = first-some bytes place s number f in (omega arith, omega (arith, begun-near bytes place s w))
+    (first-numbers bytes place s number f .0, omega (arith, begun-near bytes place s w))
 form-near bytes number place (bare-end s w l t z n) = (omega arith, omega (arith, begun-near bytes place s w))
 form-near bytes number place (more s at w t o e l n) = (omega arith, omega (arith, begun-near bytes at s w))
 
@@ -85,3 +89,23 @@ read-near bytes small = go (decode bytes) refl
     go (accepted s) e = judge-near s
     go (refused number place) e =
         let w = form-near bytes number place (decode-fails bytes number place small .0 e) in near-refused 763 number place (w .0) (w .1)
+
+-- The same of a schedule: the LINKs before a place are those of at most 63 links.
+links-near : (bytes : List ℕ) (at : ℕ) (s : Schedule) → ScheduleBegun bytes at s → at ≤ 378
+links-near bytes at s w =
+    omega (
+      arith,
+      ap length (w .are),
+      length-take-le at bytes (w .within),
+      links-size s (scheduleSize 17) refl,
+      links-few s (scheduleSize 17) refl (w .listed .few),
+    )
+
+pub schedule-near : (bytes : List ℕ) → Bytes bytes → Near 763 (scheduleRead bytes)
+schedule-near bytes small number place e = go (schedule-why bytes small number place .0 e)
+  where
+    go : ScheduleFails bytes number place → (1 ≤ number) × (place ≤ 763)
+    go (no-end s w e n) = (omega arith, omega (arith, links-near bytes place s w))
+    go (command s w l t f) = (check-numbers bytes place s number f .0, omega (arith, links-near bytes place s w))
+    go (bare-end s w l t z n) = (omega arith, omega (arith, links-near bytes place s w))
+    go (more s at w t o e l n) = (omega arith, omega (arith, links-near bytes at s w))

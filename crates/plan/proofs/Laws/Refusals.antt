@@ -1,24 +1,24 @@
--- The form of the bytes is refused just as the words say.
-use Prim.Native.Nat.{ℕ, _+_, _<_}
-use mathlib.Core.Path.{_≡_, sym, _∙_, ap}
-use mathlib.Core.List.{List}
+-- A plan's form is accepted and refused just as the words say.
+use Prim.Native.Nat.{ℕ, _≤_}
+use mathlib.Core.Path.{_≡_, refl, sym, _∙_, ap}
+use mathlib.Core.List.{List, [], _∷_}
 use mathlib.Core.Logic.{_↔_}
-use lib.ListN.{length, getD}
+use lib.ListN.{drop, take-append-drop}
 use native.Mathlib.Omega.{arith}
-use Rattle.pinwheel.specs.Outcome.{refused}
-use Rattle.pinwheel.proofs.Laws.Outcomes.{refused-not}
+use Rattle.pinwheel.specs.Outcome.{accepted, refused}
 use Rattle.site.specs.declared.Site.{Site}
 use Rattle.site.specs.Sites.{withSchedule}
 use Rattle.limits.specs.Words.{Unscheduled}
 use Rattle.format.specs.Words.{Bytes}
-use Rattle.reader.specs.Read.{Draft, plans, fault, endOf, decode}
-use Rattle.format.proofs.Laws.Reading.{readOn, read-out, read-end, read-stop, ended-bare, ended-more}
-use Rattle.format.proofs.Laws.Reading as way
-use Rattle.plan.specs.Words.{Begun, FormFails, no-end, command, bare-end, more}
+use Rattle.format.proofs.Laws.Reading.{readOn, Stop}
+use Rattle.reader.specs.Read.{Draft, plans, decode}
+use Rattle.writer.specs.Write.{planBytes}
+use Rattle.plan.specs.Words.{InForm, Begun, commandChecks, FormFails, no-end, command, bare-end, more}
 use Rattle.plan.proofs.Laws.Drafts.{NextOf, drafted-next}
 use Rattle.plan.proofs.Laws.FromBytes.{Reached, reached-begun, stops}
 use Rattle.plan.proofs.Laws.FromSites.{zeros, begun-read}
-use Rattle.plan.proofs.Laws.Faults.{fault-first, first-some}
+use Rattle.plan.proofs.Laws.Faults.{fault-first, first-numbers}
+use Rattle.plan.proofs.Laws.Files.{InWords, Came, Goes, file-accepted, file-fails}
 
 -- A site without a schedule.
 bare-same : (s : Site) → Unscheduled s → withSchedule s zeros zeros ≡ s
@@ -36,48 +36,53 @@ bare-same s b = λ i. record {
   deadlines = s .deadlines;
 }
 
-module _ (bytes : List ℕ) (number place : ℕ) where
-  -- What the words ask is what the reading meets.
-  decode-why : Bytes bytes → decode bytes ≡ refused number place → FormFails bytes number place
-  decode-why small e = go (stops bytes small)
-    where
-      ends : (m : ℕ) (d : Draft) → Reached bytes m d → m < length bytes → getD bytes m 0 ≡ 255 → decode bytes ≡ endOf (length bytes) m (d .site)
-          → way.EndWay (length bytes) m (d .site .links) (d .site) → FormFails bytes number place
-      ends m d r l b h (way.bare z q) =
-          let n : number ≡ 9 = cc in let p : m ≡ place = cc in
-          bare-end (d .site) (rw p at (reached-begun bytes m d r)) (rw p at l) (rw p at b) z n
-      ends m d r l b h (way.more o k q) =
-          let n : number ≡ 10 = cc in let p : place ≡ m + 1 = cc in more (d .site) m (reached-begun bytes m d r) b o p (omega arith) n
-      ends m d r l b h (way.last o k q) = absurd (refused-not _ e (h ∙ q))
+-- The nodes and flows that a draft has, and what its next number is to them.
+abbrev siteOf : Draft → Site
+siteOf d = d .site
 
-      go : (m : ℕ) × (d : Draft) × Reached bytes m d × way.Stop plans bytes m d → FormFails bytes number place
-      go (m, d, r, way.out q) =
-          let h = r .here ∙ read-out plans bytes m d (omega arith) in
-          let n : number ≡ 2 = cc in let p : m ≡ place = cc in
-          no-end (d .site) (rw p at (reached-begun bytes m d r)) (rw p at q) n
-      go (m, d, r, way.end l b) = ends m d r l b (r .here ∙ read-end plans bytes m d l b) (way.end-way (length bytes) m (d .site .links) (d .site))
-      go (m, d, r, way.fails l b f) =
-          let h = r .here ∙ read-stop plans bytes m d l b f in
-          let n : fault bytes m d ≡ number = cc in let p : m ≡ place = cc in
-          let first = fault-first bytes m d (drafted-next d (r .drafted)) number (λ z. f (n ∙ z)) .0 n in
-          command (d .site) (rw p at (reached-begun bytes m d r)) (rw p at l) (rw p at b) (rw p at first)
+abbrev linksOf : Site → ℕ
+linksOf s = s .links
+
+abbrev Ready : Draft → Type 0
+Ready d = NextOf (d .site) (d .next)
+
+module _ (bytes : List ℕ) where
+  in-words : InWords plans bytes siteOf linksOf siteOf (commandChecks bytes) Ready
+  in-words = record { ends = λ size at d. refl; first = fault-first bytes; some = λ at s n f. first-numbers bytes at s n f .0 }
+
+  came : Bytes bytes → Came plans bytes (decode bytes) siteOf linksOf siteOf (Begun bytes) (commandChecks bytes) Ready in-words
+  came small = go (stops bytes small)
+    where
+      go : (m : ℕ) × (d : Draft) × Reached bytes m d × Stop plans bytes m d
+          → Came plans bytes (decode bytes) siteOf linksOf siteOf (Begun bytes) (commandChecks bytes) Ready in-words
+      go (m, d, r, stop) = (m, d, reached-begun bytes m d r, drafted-next d (r .drafted), r .here, stop)
 
   -- Behind commands that passed their checks the reading is as if it had begun with what they say.
-  begun-on : (at : ℕ) (s : Site) → Begun bytes at s → (next : ℕ) × (decode bytes ≡ readOn plans bytes at (record { site = s; next = next })) × NextOf s next
-  begun-on at s b =
+  goes : (at : ℕ) (s : Site) → Begun bytes at s → Goes plans bytes (decode bytes) siteOf linksOf siteOf (Begun bytes) (commandChecks bytes) Ready in-words at s
+  goes at s b =
       let w = begun-read bytes at s (b .formed) (b .within) (b .are) in
-      (w .0, w .1 ∙ ap (λ (t : Site). readOn plans bytes at (record { site = t; next = w .0 })) (bare-same s (b .bare)), w .2)
+      (record { site = s; next = w .0 }, refl, w .2, w .1 ∙ ap (λ (t : Site). readOn plans bytes at (record { site = t; next = w .0 })) (bare-same s (b .bare)))
 
-  why-decode : FormFails bytes number place → decode bytes ≡ refused number place
-  why-decode (no-end s b p n) =
-      let w = begun-on place s b in rw (n, p) (w .1 ∙ read-out plans bytes place _ (omega arith))
-  why-decode (command s b l t f) =
-      let w = begun-on place s b in
-      let some = first-some bytes place s number f in
-      let e = fault-first bytes place (record { site = s; next = w .0 }) (w .2) number some .1 f in
-      w .1 ∙ read-stop plans bytes place _ l t (λ z. some (sym e ∙ z)) ∙ rw e
-  why-decode (bare-end s b l t z n) = let w = begun-on place s b in rw n (w .1 ∙ read-end plans bytes place _ l t ∙ ended-bare (length bytes) place (s .links) s z)
-  why-decode (more s at b t o p l n) = let w = begun-on at s b in rw (n, p) (w .1 ∙ read-end plans bytes at _ (omega arith) t ∙ ended-more (length bytes) at (s .links) s (omega arith) (omega arith))
+  pub decode-fails : (number place : ℕ) → Bytes bytes → (decode bytes ≡ refused number place) ↔ FormFails bytes number place
+  decode-fails number place small = file-fails plans bytes _ siteOf linksOf siteOf _ _ Ready in-words number place (came small) goes
 
-  pub decode-fails : Bytes bytes → (decode bytes ≡ refused number place) ↔ FormFails bytes number place
-  decode-fails small = (decode-why small, why-decode)
+  -- What the form of the bytes is accepted as is what they say.
+  pub decode-form : Bytes bytes → (s : Site) → decode bytes ≡ accepted s → InForm bytes s
+  unfolding planBytes
+  decode-form small s e = go (file-accepted plans bytes _ siteOf linksOf siteOf _ _ Ready in-words (came small) s e)
+    where
+      go : (m : ℕ) × (d : Draft) × Begun bytes m (d .site) × (1 ≤ d .site .links) × (d .site ≡ s) × (drop m bytes ≡ 255 ∷ []) → InForm bytes s
+      go (m, d, b, some, same, rest) =
+          rw (← same) (record {
+            formed = b .formed;
+            bare = b .bare;
+            some = some;
+            are = sym (take-append-drop m bytes) ∙ rw (b .are, rest);
+          })
+
+-- What it is refused with has a number up to 10.
+pub form-numbers : (bytes : List ℕ) (number place : ℕ) → FormFails bytes number place → number ≤ 10
+form-numbers bytes number place (no-end s b p n) = omega arith
+form-numbers bytes number place (command s b l t f) = omega (arith, first-numbers bytes place s number f)
+form-numbers bytes number place (bare-end s b l t z n) = omega arith
+form-numbers bytes number place (more s at b t some p l n) = omega arith

@@ -1,15 +1,16 @@
 -- One law for each way that a check of a LINK or of END ends.
 use Prim.Native.Nat.{ℕ, _+_, _*_, _≤_, _<_}
 use mathlib.Core.Path.{_≡_, sym, _∙_, ap}
-use mathlib.Core.Bool.{Bool, true, false, not, cond, or-true}
+use mathlib.Core.Bool.{Bool, true, false, not, false≢true}
 use mathlib.Core.List.{List}
-use mathlib.Core.Logic.{_↔_}
+use mathlib.Core.Logic.{_⊎_, inl, inr, ⊎-elim, _↔_}
 use lib.Dec.{eqb, ltb, leb}
 use lib.ListN.{length, getD}
 use borrow.Author.Tests.{lt-ltb, le-ltb, le-leb, lt-leb, eq-eqb, ne-eqb, ltb-false, leb-false, eqb-true, not-false}
 use native.Mathlib.Omega.{arith}
 use Rattle.pinwheel.specs.Outcome.{Outcome, Ruling, accepted, refused}
 use Rattle.pinwheel.proofs.Laws.Choices.{passed, neither}
+use Rattle.pinwheel.proofs.Laws.Search.{lt-or-le}
 use Rattle.format.proofs.Laws.{number-one, number-two}
 use Rattle.format.proofs.Laws.Reading.{ended-bare, ended-more, ended-last}
 use Rattle.schedule_file.specs.declared.Link.{Link}
@@ -33,6 +34,13 @@ module _ (links node : ℕ) where
   order-when = (
     λ e. let w = neither _ _ e in (leb-false _ _ (w .0), eqb-true _ _ (not-false _ (w .1))),
     λ w. simp (lt-leb _ _ (w .0), eq-eqb _ _ (w .1)),
+  )
+
+  -- Out of order: no number is left, or the number is not the next.
+  pub order-fails : (outOfOrder links node ≡ true) ↔ ((63 ≤ links) ⊎ (node ≡ links + 1 → ⊥))
+  order-fails = (
+    λ e. ⊎-elim (λ l. inr (λ q. false≢true (sym (order-when .1 (l, q)) ∙ e))) (λ l. inl l) (lt-or-le links 63),
+    ⊎-elim (λ l. sym (order-full l)) (λ n. ⊎-elim (λ l. sym (order-next l) ∙ rw (ne-eqb node (links + 1) n)) (λ l. sym (order-full l)) (lt-or-le links 63)),
   )
 
 -- 22.
