@@ -12,7 +12,7 @@ use Rattle.site.specs.Sites.{emptySite}
 use Rattle.schedule.specs.Schedule.{listed}
 use Rattle.schedule.specs.Judge.{withSite}
 use Rattle.reader.specs.Read.{readOf}
-use Rattle.writer.specs.Write.{scheduleBytes, writtenIf}
+use Rattle.writer.specs.Write.{scheduleOf, scheduleBytes, writtenIf}
 use Rattle.admission.specs.Calls.{admitOf}
 use Rattle.simulation.specs.Hops.{own}
 use Rattle.simulation.specs.Slot.{slotOf}
@@ -30,8 +30,8 @@ pub data Row : Type 0 where
   plays : List ℕ → List ℕ → List ℕ → ℕ → Ruling × List ℕ → Row
 
 -- What is written of the schedule of the site that a plan reads to.
-abbrev scheduleOf : Ruling × Site → List ℕ → Outcome ℕ × List ℕ
-scheduleOf (verdict, s) out = writtenIf s (scheduleBytes (s .links) (s .offsets) (s .periods)) out
+abbrev scheduleFor : Ruling × Site → List ℕ → Outcome ℕ × List ℕ
+scheduleFor (verdict, s) out = writtenIf s (scheduleBytes (scheduleOf s)) out
 
 -- n slots with the numbers from t on, each with these arrivals and on the counters that the one before left.
 abbrev played : Site → List ℕ → ℕ → ℕ → Ruling × List ℕ → Ruling × List ℕ
@@ -75,7 +75,7 @@ counters r i = listed (λ k. 4294966720 + k) r i
 abbrev pub Holds : Row → Type 0
 Holds (deals gaps offsets periods result) = dealt 2 gaps offsets periods ≡ result
 Holds (reads plan result) = withSite (readOf plan) ≡ result
-Holds (schedules plan bytes) = scheduleOf (withSite (readOf plan)) (replicate (length bytes) 0) ≡ (accepted (length bytes), bytes)
+Holds (schedules plan bytes) = scheduleFor (withSite (readOf plan)) (replicate (length bytes) 0) ≡ (accepted (length bytes), bytes)
 Holds (admits plan cells flow result) = admitOf (withSite (readOf plan) .1) cells flow ≡ result
 Holds (plays plan cells arrivals n result) = played (withSite (readOf plan) .1) arrivals n 0 (accepted tt, cells) ≡ result
 

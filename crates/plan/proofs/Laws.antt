@@ -20,7 +20,7 @@ use mathlib.Core.Logic.{_⊎_, inl, inr, ⊎-elim, _↔_}
 use lib.ListN.{length, take, drop}
 use borrow.Author.Tests.{le-ltb, ne-eqb}
 use native.Mathlib.Omega.{arith}
-use Rattle.pinwheel.specs.Outcome.{accepted, refused}
+use Rattle.pinwheel.specs.Outcome.{accepted, refused, orElse}
 use Rattle.pinwheel.proofs.Laws.Search.{lt-or-le}
 use Rattle.site.specs.declared.Site.{Site}
 use Rattle.site.specs.Sites.{emptySite}
@@ -99,7 +99,7 @@ refused-late bytes small n = refused-judged bytes small 13 n (omega arith) _ (λ
 -- 01: a refused reading gives the empty site.
 pub refused-empty : (bytes : List ℕ) (number place : ℕ) → readOf bytes ≡ refused number place
     → withSite (readOf bytes) ≡ (refused number place, emptySite)
-unfolding withSite
+unfolding withSite orElse
 refused-empty bytes number place e = rw e
 
 -- Bytes to site to bytes.

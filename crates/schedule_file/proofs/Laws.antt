@@ -11,7 +11,7 @@ use mathlib.Core.Logic.{_↔_}
 use lib.ListN.{length, getD, take}
 use borrow.Author.Tests.{le-leb, eq-eqb, leb-true, eqb-true}
 use native.Mathlib.Omega.{arith}
-use Rattle.pinwheel.specs.Outcome.{Outcome, accepted, refused}
+use Rattle.pinwheel.specs.Outcome.{refused, orElse}
 use Rattle.schedule_file.specs.declared.Schedule.{Schedule}
 use Rattle.schedule_file.specs.Read.{withoutLinks, withLinks, scheduleRead}
 use Rattle.schedule_file.specs.Check.{schedulePasses}
@@ -33,7 +33,7 @@ passes-listed s = (
 -- 01: a refused reading gives the schedule without links.
 pub refused-without : (bytes : List ℕ) (number place : ℕ) → scheduleRead bytes ≡ refused number place
     → withLinks (scheduleRead bytes) ≡ (refused number place, withoutLinks)
-unfolding withLinks
+unfolding withLinks orElse
 refused-without bytes number place e = rw e
 
 -- No input passes more than 63 LINKs and END.

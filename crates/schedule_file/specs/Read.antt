@@ -4,7 +4,7 @@ use mathlib.Core.Bool.{Bool, not, cond, _||_}
 use mathlib.Core.List.{List}
 use lib.Dec.{eqb, ltb, leb}
 use lib.ListN.{length, set, replicate}
-use Rattle.pinwheel.specs.Outcome.{Outcome, Ruling, accepted, refused}
+use Rattle.pinwheel.specs.Outcome.{Outcome, Ruling, orElse}
 use Rattle.format.specs.Bytes.{numberAt}
 use Rattle.format.specs.Commands.{scheduleSize}
 use Rattle.format.specs.Reading.{Kind, faultOf, ended, readFrom}
@@ -17,8 +17,7 @@ withoutLinks = record { links = 0; offsets = replicate 63 0; periods = replicate
 
 -- 01: a refused reading of a schedule gives the one without links.
 unfoldable pub withLinks : Outcome Schedule → Ruling × Schedule
-withLinks (accepted s) = (accepted tt, s)
-withLinks (refused number place) = (refused number place, withoutLinks)
+withLinks o = orElse withoutLinks o
 
 -- 01, command 11, LINK, at index `at`: a byte for the node, two for the offset, two for the period.
 unfoldable pub linkAt : List ℕ → ℕ → Link

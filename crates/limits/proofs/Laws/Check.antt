@@ -23,10 +23,10 @@ use Rattle.schedule.specs.Judge.{ruling, withSite, judgeOf}
 use Rattle.site.proofs.Site.{the-row}
 use Rattle.limits.specs.declared.Node.{Node}
 use Rattle.limits.specs.Limits.{nodeLimits, flowLimits}
-use Rattle.site.specs.Sites.{withSchedule}
+use Rattle.site.specs.Sites.{emptySite, withSchedule}
 use Rattle.schedule.specs.Schedule.{scheduled}
 use Rattle.schedule.proofs.Laws.{judge-gives}
-use Rattle.schedule.proofs.Laws.Rulings.{site-accepted, site-refused}
+use Rattle.pinwheel.proofs.Laws.Outcomes.{else-accepted, else-refused}
 use Rattle.limits.specs.Check.{shaped, illNode, illFlow, firstIllNode, firstIllFlow, formed, same, accepts, stands, passesOf, callFault}
 
 -- A site's type tells how long its lists are.
@@ -140,15 +140,15 @@ judged-lists s t e = let q = judge-gives s t e in (ap (λ (u : Site). u .offsets
 -- The judgement of s, and what it gives.
 module _ (s t : Site) (v : Verdict) (j : (ruling v, t) ≡ withSite (judgeOf s)) where
   pub stands-refused : (number place : ℕ) → v ≡ Refused number place → false ≡ stands s
-  unfolding stands accepts
+  unfolding stands accepts withSite
   stands-refused number place e =
-      rw (site-refused (judgeOf s) t number place (sym (ap (λ (u : Verdict). (ruling u, t)) e) ∙ j))
+      rw (else-refused emptySite (judgeOf s) t number place (sym (ap (λ (u : Verdict). (ruling u, t)) e) ∙ j))
 
   module _ (e : v ≡ Accepted) where
     stands-lists : stands s ≡ same (s .offsets) (t .offsets) && same (s .periods) (t .periods)
-    unfolding stands accepts
+    unfolding stands accepts withSite
     stands-lists =
-        let own = site-accepted (judgeOf s) t (sym (ap (λ (u : Verdict). (ruling u, t)) e) ∙ j) in
+        let own = else-accepted emptySite (judgeOf s) t (sym (ap (λ (u : Verdict). (ruling u, t)) e) ∙ j) in
         rw (judged-lists s t own .0, judged-lists s t own .1, own)
 
     pub stands-offsets : (r : Bool) → r ≡ same (s .offsets) (t .offsets) → not r ≡ true → false ≡ stands s

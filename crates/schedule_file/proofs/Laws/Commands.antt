@@ -8,7 +8,7 @@ use lib.Dec.{eqb, ltb, leb}
 use lib.ListN.{length, getD}
 use borrow.Author.Tests.{lt-ltb, le-ltb, le-leb, lt-leb, eq-eqb, ne-eqb, ltb-false, leb-false, eqb-true, not-false}
 use native.Mathlib.Omega.{arith}
-use Rattle.pinwheel.specs.Outcome.{Outcome, Ruling, accepted, refused}
+use Rattle.pinwheel.specs.Outcome.{accepted, refused, orElse}
 use Rattle.pinwheel.proofs.Laws.Choices.{passed, neither}
 use Rattle.pinwheel.proofs.Laws.Search.{lt-or-le}
 use Rattle.format.proofs.Laws.{number-one, number-two}
@@ -106,5 +106,5 @@ module _ (size at : ℕ) (s : Schedule) where
   end-more n l = ap withLinks (sym (ended-more size at (s .links) s n l))
 
   pub end-last : (s .links ≡ 0 → ⊥) → size ≤ at + 1 → (accepted tt, s) ≡ withLinks (endOf size at s)
-  unfolding withLinks
+  unfolding withLinks orElse
   end-last n l = ap withLinks (sym (ended-last size at (s .links) s n l))
