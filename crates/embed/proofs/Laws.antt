@@ -1,8 +1,9 @@
 -- What is proved of hosts' calls over plan bytes: an answer tells one outcome alone; a call is the operation on the site that the bytes read to; and the bytes
 -- that a change writes read to the changed site, so that a host that keeps bytes has lost nothing. The modules named here hold the lemmas.
+pub mod Lists
 pub mod Told
 pub mod Calls
-use Prim.Native.Nat.{ℕ, _+_, _/_, _%_, _^_}
+use Prim.Native.Nat.{ℕ, _+_, _/_, _%_, _^_, _≤_}
 use mathlib.Core.Path.{_≡_, refl, sym, _∙_, ap}
 use mathlib.Core.Bool.{Bool, true, false, not, cond}
 use mathlib.Core.List.{List, _++_}
@@ -18,12 +19,18 @@ use Rattle.site.specs.declared.Flow.{Flow}
 use Rattle.limits.specs.Check.{passesOf}
 use Rattle.format.specs.Words.{Bytes}
 use Rattle.reader.specs.Read.{readOf}
-use Rattle.writer.specs.Write.{planBytes, written, siteFault, writtenIf}
-use Rattle.plan.proofs.Laws.{written-read}
+use Rattle.writer.specs.Write.{planBytes, siteFault, writtenIf, scheduleWritten}
+use Rattle.writer.proofs.Laws.{written-accepted}
+use Rattle.writer.proofs.Laws.Write.{fault-passed}
+use Rattle.schedule_file.specs.declared.Schedule.{Schedule}
+use Rattle.schedule_file.specs.Read.{scheduleRead}
+use Rattle.plan.proofs.Laws.{written-read, schedule-made, schedule-again}
+use Rattle.plan.proofs.Laws.Schedules.{schedule-form}
+use Rattle.embed.proofs.Laws.Calls.{by-yes, of-length}
 use Rattle.admission.specs.Calls.{admitOf, releaseOf}
 use Rattle.simulation.specs.Hops.{own}
 use Rattle.simulation.specs.Slot.{slotOf, startOf}
-use Rattle.embed.specs.Calls.{told, valued, byReading, onSite, ofLength, stored, rewritten, admitFrom, releaseFrom, answered, startFrom, slotFrom}
+use Rattle.embed.specs.Calls.{told, valued, byReading, onSite, ofLength, stored, rewritten, admitFrom, releaseFrom, answered, startFrom, slotFrom, linksOf, scheduleReadFrom, scheduleWrittenFrom}
 
 -- What is refused is not accepted.
 unlike : {number place value : ℕ} → _≡_ {A = Outcome ℕ} (refused number place) (accepted value) → ⊥
@@ -66,26 +73,10 @@ of-list {A = A} list n otherwise b a differs e = go (eqb (length list) n) refl e
 -- Bytes that were written read to the site that they were written of, and what stood behind them stands there still.
 written-reads : (s : Site) (out new : List ℕ) (size : ℕ) → writtenIf s (planBytes s) out ≡ (accepted size, new)
     → (readOf (take size new) ≡ accepted s) × (drop size new ≡ drop size out)
-unfolding writtenIf siteFault written
-written-reads s out new size e = go (passesOf s) refl (eqb (s .links) 0) refl (ltb (length out) (length (planBytes s))) e
-  where
-    go : (a : Bool) → passesOf s ≡ a → (b : Bool) → eqb (s .links) 0 ≡ b → (c : Bool)
-        → _≡_ {A = Outcome ℕ × List ℕ}
-        (cond (eqb (cond a (cond b 9 0) 14) 0) (cond c (refused 1 0, out) (accepted (length (planBytes s)), planBytes s ++ drop (length (planBytes s)) out)) (refused (cond a (cond b 9 0) 14) 0, out))
-        (accepted size, new)
-        → (readOf (take size new) ≡ accepted s) × (drop size new ≡ drop size out)
-    go true p false q false e =
-        let o : _≡_ {A = Outcome ℕ} (accepted (length (planBytes s))) (accepted size) = ap (λ (r : Outcome ℕ × List ℕ). r .0) e in
-        let long : length (planBytes s) ≡ size = cc in
-        let is : planBytes s ++ drop (length (planBytes s)) out ≡ new = ap (λ (r : Outcome ℕ × List ℕ). r .1) e in
-        let some : s .links ≡ 0 → ⊥ = eqb-false _ _ q in (
-          ap readOf (sym (ap (λ (r : List ℕ). take size r) is) ∙ take-at (planBytes s) (drop (length (planBytes s)) out) size long)
-              ∙ written-read s p (omega arith) .1,
-          sym (ap (λ (r : List ℕ). drop size r) is) ∙ drop-at (planBytes s) (drop (length (planBytes s)) out) size long ∙ rw long,
-        )
-    go true p false q true e = absurd (unlike (ap (λ (r : Outcome ℕ × List ℕ). r .0) e))
-    go true p true q c e = absurd (unlike (ap (λ (r : Outcome ℕ × List ℕ). r .0) e))
-    go false p b q c e = absurd (unlike (ap (λ (r : Outcome ℕ × List ℕ). r .0) e))
+written-reads s out new size e =
+    let w = written-accepted (siteFault s) (planBytes s) out new size e in
+    let p = fault-passed (passesOf s) (s .links) (w .0) in
+    (ap readOf (w .2) ∙ written-read s (p .0) (p .1) .1, w .3)
 
 -- What a change comes to where its bytes were written.
 abbrev Changed : List ℕ → (Site → Ruling × Site × List ℕ) → List ℕ → ℕ → List ℕ → List ℕ → Type 0
@@ -162,3 +153,42 @@ slot-plays bytes counters arrivals t value ds e =
     let a = of-list counters 576 _ _ _ (λ q. unlike (ap (λ (r : Outcome ℕ × List ℕ). r .0) q)) e in
     let b = of-list arrivals 64 _ _ _ (λ q. unlike (ap (λ (r : Outcome ℕ × List ℕ). r .0) q)) (a .1) in
     played bytes counters (λ s. slotOf own s counters arrivals t) value ds (b .1)
+
+-- 02, U1. What a host's schedule was written to reads back to the same number of links and the same lists, whatever the lists that are filled held before, and what
+-- stood behind the file stands there still.
+pub schedule-file-reads : (links : ℕ) (offsets periods out : List ℕ) (size : ℕ) (new : List ℕ) → scheduleWrittenFrom links offsets periods out ≡ (accepted size, new)
+    → (starts lengths : List ℕ) → length starts ≡ 63 → length lengths ≡ 63
+    → (scheduleReadFrom (take size new) starts lengths ≡ (accepted links, offsets, periods)) × (drop size new ≡ drop size out)
+unfolding scheduleWrittenFrom scheduleReadFrom
+schedule-file-reads links offsets periods out size new e starts lengths long as-long =
+    let a = of-list offsets 63 _ _ _ (λ q. unlike (ap (λ (r : Outcome ℕ × List ℕ). r .0) q)) e in
+    let b = of-list periods 63 _ _ _ (λ q. unlike (ap (λ (r : Outcome ℕ × List ℕ). r .0) q)) (a .1) in
+    let w = schedule-made (record { links = links; offsets = offsets; periods = periods }) out new size (b .1) in (
+      sym (by-yes (scheduleRead (take size new)) linksOf _ _ (w .0)
+      ∙ of-length lengths 63 _ _ as-long ∙ of-length starts 63 _ _ long),
+      w .1,
+    )
+
+-- A file that was read is written again from the lists that it filled, to equal bytes.
+pub schedule-file-again : (file offsets periods : List ℕ) → Bytes file → (links : ℕ) (starts lengths : List ℕ)
+    → scheduleReadFrom file offsets periods ≡ (accepted links, starts, lengths) → (out : List ℕ) → length file ≤ length out
+    → scheduleWrittenFrom links starts lengths out ≡ (accepted (length file), file ++ drop (length file) out)
+unfolding scheduleReadFrom scheduleWrittenFrom byReading
+schedule-file-again file offsets periods small links starts lengths e out room =
+    let a = of-list offsets 63 _ _ _ (λ q. unlike (ap (λ (r : Outcome ℕ × List ℕ × List ℕ). r .0) q)) e in
+    let b = of-list periods 63 _ _ _ (λ q. unlike (ap (λ (r : Outcome ℕ × List ℕ × List ℕ). r .0) q)) (a .1) in
+    go (scheduleRead file) refl (b .1)
+  where
+    go : (o : Outcome Schedule) → scheduleRead file ≡ o
+        → byReading o (λ number place. (refused number place, offsets, periods)) linksOf ≡ (accepted links, starts, lengths)
+        → ofLength starts 63 (refused 1 0, out) (ofLength lengths 63 (refused 1 0, out) (scheduleWritten (record { links = links; offsets = starts; periods = lengths }) out))
+        ≡ (accepted (length file), file ++ drop (length file) out)
+    go (accepted s) q f =
+        let first : _≡_ {A = Outcome ℕ} (accepted (s .links)) (accepted links) = ap (λ (r : Outcome ℕ × List ℕ × List ℕ). r .0) f in
+        let m : s .links ≡ links = cc in
+        let os : s .offsets ≡ starts = ap (λ (r : Outcome ℕ × List ℕ × List ℕ). r .1) f in
+        let ps : s .periods ≡ lengths = ap (λ (r : Outcome ℕ × List ℕ × List ℕ). r .2) f in
+        let w = schedule-form file small s q .listed in
+        rw (← m, ← os, ← ps)
+        (sym (of-length (s .periods) 63 _ _ (w .periods-long) ∙ of-length (s .offsets) 63 _ _ (w .offsets-long)) ∙ schedule-again file s small q out room)
+    go (refused number place) q f = absurd (unlike (ap (λ (r : Outcome ℕ × List ℕ × List ℕ). r .0) f))

@@ -1,4 +1,4 @@
--- What a host's calls answer, and what they leave in the memory lent to them, for every input. A call works on the site that its plan bytes read to.
+-- What a host's calls answer, and what they leave in the memory lent to them, for every input. A call works on the site that its plan bytes read to, or on a schedule.
 use Prim.Native.Nat.{ℕ, _+_, _*_, _/_, _%_, _^_}
 use mathlib.Core.Bool.{not, cond}
 use mathlib.Core.List.{List}
@@ -10,7 +10,9 @@ use Rattle.site.specs.declared.Flow.{Flow}
 use Rattle.site.specs.Sites.{live}
 use Rattle.site.specs.Reservations.{sumTo, delayBound}
 use Rattle.reader.specs.Read.{readOf}
-use Rattle.writer.specs.Write.{planBytes, scheduleBytes, writtenIf}
+use Rattle.schedule_file.specs.declared.Schedule.{Schedule}
+use Rattle.schedule_file.specs.Read.{scheduleRead}
+use Rattle.writer.specs.Write.{planBytes, scheduleOf, scheduleBytes, writtenIf, scheduleWritten}
 use Rattle.admission.specs.Calls.{admitOf, numberRuling, releaseOf}
 use Rattle.simulation.specs.Sender.{senderOf}
 use Rattle.simulation.specs.Hops.{own}
@@ -26,9 +28,9 @@ unfoldable pub valued : Ruling → ℕ → Outcome ℕ
 valued (accepted a) value = accepted value
 valued (refused number place) value = refused number place
 
--- What a call comes to on the site of a reading, and what it comes to with the number and the place of a refused one.
-unfoldable pub byReading : {A : Type 0} → Outcome Site → (ℕ → ℕ → A) → (Site → A) → A
-byReading (accepted s) otherwise f = f s
+-- What a call comes to on what a reading gives, and what it comes to with the number and the place of a refused one.
+unfoldable pub byReading : {A B : Type 0} → Outcome B → (ℕ → ℕ → A) → (B → A) → A
+byReading (accepted b) otherwise f = f b
 byReading (refused number place) otherwise f = otherwise number place
 
 -- A call on a live site, which 14 refuses where its plan bytes read to none.
@@ -51,7 +53,24 @@ markOf bytes = byReading (readOf bytes) (λ number place. refused number place) 
 unfoldable pub scheduleFrom : List ℕ → List ℕ → Outcome ℕ × List ℕ
 scheduleFrom bytes out =
     byReading (readOf bytes) (λ number place. (refused number place, out))
-    (λ s. writtenIf s (scheduleBytes (s .links) (s .offsets) (s .periods)) out)
+    (λ s. writtenIf s (scheduleBytes (scheduleOf s)) out)
+
+-- What a schedule fills a host's memory with: the number of links, and both lists.
+abbrev pub linksOf : Schedule → Outcome ℕ × List ℕ × List ℕ
+linksOf s = (accepted (s .links), s .offsets, s .periods)
+
+-- 02, U1. Read a schedule: 1 for both lists, then what refuses the reading. The value is the number of links, and the lists hold the schedule's.
+unfoldable pub scheduleReadFrom : List ℕ → List ℕ → List ℕ → Outcome ℕ × List ℕ × List ℕ
+scheduleReadFrom file offsets periods =
+    ofLength offsets 63 (refused 1 0, offsets, periods)
+    (ofLength periods 63 (refused 1 0, offsets, periods)
+    (byReading (scheduleRead file) (λ number place. (refused number place, offsets, periods)) linksOf))
+
+-- Write one: 1 for both lists, 14, 9, and last 1 for the slice.
+unfoldable pub scheduleWrittenFrom : ℕ → List ℕ → List ℕ → List ℕ → Outcome ℕ × List ℕ
+scheduleWrittenFrom links offsets periods out =
+    ofLength offsets 63 (refused 1 0, out)
+    (ofLength periods 63 (refused 1 0, out) (scheduleWritten (record { links = links; offsets = offsets; periods = periods }) out))
 
 -- What a writing leaves of the counters: the new ones only where the bytes found room.
 unfoldable pub stored : Outcome ℕ × List ℕ → List ℕ → List ℕ → Outcome ℕ × List ℕ × List ℕ

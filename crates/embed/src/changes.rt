@@ -10,16 +10,15 @@ ghost use Prim.Native.Nat.{_<_};
 ghost use lib.ListN.{length};
 ghost use Rattle.counters.specs.Blocks.{withCells, zeros};
 ghost use Rattle.admission.specs.Calls.{admitOf, releaseOf};
-ghost use Rattle.writer.specs.Write.{planBytes, scheduleBytes, writtenIf};
+ghost use Rattle.writer.specs.Write.{planBytes, scheduleOf, scheduleBytes, writtenIf};
 ghost use Rattle.embed.specs.Calls.{told, stored, rewritten};
 ghost use Rattle.embed.specs.Inner.{Standing};
 
-pub(crate) fn schedule_of(site: Site, out: &mut [u8]) -> u64
+pub(crate) fn scheduled(site: Site, out: &mut [u8]) -> u64
     requires { ⌜ Standing site ⌝ }
-    ensures { λ r. ⌜ (told r, now (out .exit))
-        ≡ writtenIf site (scheduleBytes (site .links) (site .offsets) (site .periods)) (now (out .entry)) ⌝ }
+    ensures { λ r. ⌜ (told r, now (out .exit)) ≡ writtenIf site (scheduleBytes (scheduleOf site)) (now (out .entry)) ⌝ }
 {
-    answers::size(writer::encode_schedule(site, out))
+    answers::size(writer::encode_schedule(writer::schedule_of(site), out))
 }
 
 // The plan of the changed site. The cells are cleared last, since too short a slice is to change nothing.

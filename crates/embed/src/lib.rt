@@ -1,13 +1,15 @@
 // The functions for hosts in C and Rust (include/slotplan.h). The state of a site is its plan bytes; each answer is one number of 64 bits.
 mod answers;
 mod changes;
+mod lists;
 
 use answers::refusal;
 use schedule::Verdict;
+use schedule_file::Schedule;
 use site::Flow;
 ghost use mathlib.Core.Path.{_≡_};
 ghost use Rattle.pinwheel.specs.Deal.{dealt};
-ghost use Rattle.embed.specs.Calls.{told, markOf, scheduleFrom, admitFrom, releaseFrom, startFrom, slotFrom, senderFrom, boundFrom};
+ghost use Rattle.embed.specs.Calls.{told, markOf, scheduleFrom, scheduleReadFrom, scheduleWrittenFrom, admitFrom, releaseFrom, startFrom, slotFrom, senderFrom, boundFrom};
 
 // How many links and flows a plan has.
 #[no_mangle]
@@ -30,9 +32,58 @@ pub extern "C" fn slotplan_schedule(plan: &[u8], out: &mut [u8]) -> u64
     let read = reader::read_plan(plan);
     let verdict = read.verdict;
     match verdict {
-        Verdict::Accepted => changes::schedule_of(read.site, out),
+        Verdict::Accepted => changes::scheduled(read.site, out),
         Verdict::Refused(number, place) => refusal(number, place),
     }
+}
+
+// The offsets and periods of a schedule file.
+#[no_mangle]
+pub extern "C" fn slotplan_read_schedule(
+    file: &[u8],
+    offsets: &mut [u16],
+    periods: &mut [u16],
+) -> u64
+    ensures { λ r. ⌜ (told r, now (offsets .exit), now (periods .exit))
+        ≡ scheduleReadFrom (now (file .entry)) (now (offsets .entry)) (now (periods .entry)) ⌝ }
+{
+    if offsets.len() != 63 {
+        return refusal(1, 0);
+    }
+    if periods.len() != 63 {
+        return refusal(1, 0);
+    }
+    let read = schedule_file::read_schedule(file);
+    let verdict = read.verdict;
+    match verdict {
+        Verdict::Accepted => lists::given(read.schedule, offsets, periods),
+        Verdict::Refused(number, place) => refusal(number, place),
+    }
+}
+
+// The file of a schedule.
+#[no_mangle]
+pub extern "C" fn slotplan_write_schedule(
+    links: u8,
+    offsets: &[u16],
+    periods: &[u16],
+    out: &mut [u8],
+) -> u64
+    ensures { λ r. ⌜ (told r, now (out .exit))
+        ≡ scheduleWrittenFrom links (now (offsets .entry)) (now (periods .entry)) (now (out .entry)) ⌝ }
+{
+    if offsets.len() != 63 {
+        return refusal(1, 0);
+    }
+    if periods.len() != 63 {
+        return refusal(1, 0);
+    }
+    let schedule = Schedule {
+        links,
+        offsets: lists::entries_of(offsets),
+        periods: lists::entries_of(periods),
+    };
+    answers::size(writer::write_schedule_of(schedule, out))
 }
 
 // The plan with a flow more.

@@ -9,22 +9,24 @@ use native.Mathlib.Omega.{arith}
 use Rattle.pinwheel.specs.Outcome.{Outcome, Ruling, accepted, refused, checked, settled}
 use Rattle.site.specs.declared.Site.{Site}
 use Rattle.site.specs.declared.Flow.{Flow}
-use Rattle.site.specs.Sites.{withFlow, withoutFlow, withSchedule}
+use Rattle.site.specs.Sites.{emptySite, withFlow, withoutFlow, withSchedule}
 use Rattle.schedule.specs.declared.Verdict.{Verdict}
 use Rattle.schedule.specs.declared.Verdict.the-variants.{Accepted, Refused}
 use Rattle.schedule.specs.Schedule.{scheduled}
 use Rattle.schedule.specs.Judge.{ruling, withSite}
-use Rattle.schedule.proofs.Laws.Rulings.{site-accepted, site-refused}
+use Rattle.pinwheel.proofs.Laws.Outcomes.{else-accepted, else-refused}
 use Rattle.limits.specs.Check.{callFault}
 use Rattle.limits.proofs.Laws.{passes-sound, call-when, flow-taken}
 use Rattle.counters.specs.Blocks.{withCells, zeros, cleared}
 use Rattle.format.specs.Words.{Bytes}
 use Rattle.reader.specs.Read.{readOf}
+use Rattle.schedule_file.specs.declared.Schedule.{Schedule}
+use Rattle.schedule_file.specs.Read.{withoutLinks, withLinks, scheduleRead}
 use Rattle.writer.specs.Write.{planBytes, encoded, writtenIf}
 use Rattle.writer.proofs.Laws.{plain-writing}
 use Rattle.plan.proofs.Laws.{passes-when}
 use Rattle.plan.proofs.Laws.Acceptance.{read-form}
-use Rattle.plan.proofs.Laws.Near.{read-near}
+use Rattle.plan.proofs.Laws.Near.{read-near, schedule-near}
 use Rattle.admission.specs.Calls.{change, flowRuling, admitRuling, numberRuling, releaseRuling}
 use Rattle.admission.proofs.Laws.{admits-when, releases-when, admitted-passes}
 use Rattle.admission.proofs.Laws.Answers.{call-passes}
@@ -42,33 +44,50 @@ unfolding scheduled withSchedule
 read-standing bytes small s e =
     let w = read-form bytes small s e in record { sound = passes-when s .1 (inr (bytes, small, e)); some = rw (w .3) (w .1 .some) }
 
--- What the reader answers: `v` and `s` are its verdict and its site.
+-- A call by what a reading came to.
+module _ {A B : Type 0} (o : Outcome B) (f : B → A) (other : ℕ → ℕ → A) where
+  pub by-yes : (b : B) → o ≡ accepted b → f b ≡ byReading o other f
+  unfolding byReading
+  by-yes b e = rw e
+
+  pub by-no : (number place : ℕ) → o ≡ refused number place → other number place ≡ byReading o other f
+  unfolding byReading
+  by-no number place e = rw e
+
+-- What the reader of plans answers: `v` and `s` are its verdict and its site.
 module _ (bytes : List ℕ) (v : Verdict) (s : Site) (e : (ruling v, s) ≡ withSite (readOf bytes)) where
   pub read-yes : v ≡ Accepted → readOf bytes ≡ accepted s
-  read-yes q = site-accepted (readOf bytes) s (rw q at e)
+  unfolding withSite
+  read-yes q = else-accepted emptySite (readOf bytes) s (rw q at e)
 
   pub read-no : (number place : ℕ) → v ≡ Refused number place → readOf bytes ≡ refused number place
-  read-no number place q = site-refused (readOf bytes) s number place (rw q at e)
+  unfolding withSite
+  read-no number place q = else-refused emptySite (readOf bytes) s number place (rw q at e)
 
   pub read-close : Bytes bytes → (number place : ℕ) → v ≡ Refused number place → (1 ≤ number) × (place ≤ 763)
   read-close small number place q = read-near bytes small number place (read-no number place q)
 
-  module _ {A : Type 0} (f : Site → A) where
-    pub by-yes : (other : ℕ → ℕ → A) → v ≡ Accepted → f s ≡ byReading (readOf bytes) other f
-    unfolding byReading
-    by-yes other q = rw (read-yes q)
-
-    pub by-no : (other : ℕ → ℕ → A) (number place : ℕ) → v ≡ Refused number place → other number place ≡ byReading (readOf bytes) other f
-    unfolding byReading
-    by-no other number place q = rw (read-no number place q)
-
-    pub on-yes : (a : A) → v ≡ Accepted → f s ≡ onSite bytes a f
+  module _ {A : Type 0} (f : Site → A) (a : A) where
+    pub on-yes : v ≡ Accepted → f s ≡ onSite bytes a f
     unfolding onSite
-    on-yes a q = by-yes (λ number place. a) q
+    on-yes q = by-yes (readOf bytes) f (λ number place. a) s (read-yes q)
 
-    pub on-no : (a : A) (number place : ℕ) → v ≡ Refused number place → a ≡ onSite bytes a f
+    pub on-no : (number place : ℕ) → v ≡ Refused number place → a ≡ onSite bytes a f
     unfolding onSite
-    on-no a number place q = by-no (λ m p. a) number place q
+    on-no number place q = by-no (readOf bytes) f (λ m p. a) number place (read-no number place q)
+
+-- What the reader of schedules answers.
+module _ (bytes : List ℕ) (v : Verdict) (s : Schedule) (e : (ruling v, s) ≡ withLinks (scheduleRead bytes)) where
+  pub schedule-yes : v ≡ Accepted → scheduleRead bytes ≡ accepted s
+  unfolding withLinks
+  schedule-yes q = else-accepted withoutLinks (scheduleRead bytes) s (rw q at e)
+
+  pub schedule-no : (number place : ℕ) → v ≡ Refused number place → scheduleRead bytes ≡ refused number place
+  unfolding withLinks
+  schedule-no number place q = else-refused withoutLinks (scheduleRead bytes) s number place (rw q at e)
+
+  pub schedule-close : Bytes bytes → (number place : ℕ) → v ≡ Refused number place → (1 ≤ number) × (place ≤ 763)
+  schedule-close small number place q = schedule-near bytes small number place (schedule-no number place q)
 
 -- A list of the right length, and another one.
 module _ {A : Type 0} (list : List ℕ) (n : ℕ) (a b : A) where
@@ -82,7 +101,7 @@ module _ {A : Type 0} (list : List ℕ) (n : ℕ) (a b : A) where
 
 -- What a standing site answers, whose check 14 need not be asked again.
 module _ (s : Site) (w : Standing s) where
-  pub stands-written : (bytes out : List ℕ) → encoded s bytes out ≡ writtenIf s bytes out
+  pub stands-written : (bytes out : List ℕ) → encoded (s .links) bytes out ≡ writtenIf s bytes out
   stands-written bytes out = plain-writing s bytes out (w .sound) (w .some)
 
   pub stands-found : (p t : ℕ) → lookupOf s p t ≡ senderOf s p t

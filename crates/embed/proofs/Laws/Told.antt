@@ -18,7 +18,8 @@ use Rattle.site.specs.Tree.{up, climb, route}
 use Rattle.site.specs.Reservations.{unfit, firstUnfit, sumTo, gapsJudged, along}
 use Rattle.site.proofs.Laws.Reservations.{sum-more}
 use Rattle.limits.specs.Limits.{flowLimits}
-use Rattle.writer.specs.Write.{planBytes, scheduleBytes, written, encoded}
+use Rattle.schedule_file.specs.declared.Schedule.{Schedule}
+use Rattle.writer.specs.Write.{planBytes, scheduleBytes, written, encoded, handedFault, writtenUnless}
 use Rattle.writer.proofs.Laws.Write.{plan-size, nodes-few, flows-few, links-few, schedule-size}
 use Rattle.format.specs.Commands.{sizeOf, scheduleSize}
 use Rattle.admission.specs.Calls.{unfitLink, routeFor, flowRuling, numberRuling}
@@ -133,29 +134,43 @@ dealt-tellable f gaps offsets periods o os ps e =
 abbrev Fitting : Outcome ℕ × List ℕ → Type 0
 Fitting r = Tellable (r .0) × Short (r .0)
 
-module _ (s : Site) (bytes out : List ℕ) (few : s .links ≤ 63 → length bytes ≤ 763) where
-  encoded-fitting : Fitting (encoded s bytes out)
-  unfolding encoded written
-  encoded-fitting = go (ltb 63 (s .links)) refl (ltb (length out) (length bytes))
-    where
-      go : (a : Bool) → ltb 63 (s .links) ≡ a → (b : Bool)
-          → Fitting (cond a (refused 14 0, out) (cond b (refused 1 0, out) (accepted (length bytes), bytes ++ drop (length bytes) out)))
-      go true e b = (tellable _ (near-refused 763 14 0 (omega arith) (omega arith)), record { low = λ v f. absurd (refused-not _ refl f) })
-      go false e true = (tellable _ (near-refused 763 1 0 (omega arith) (omega arith)), record { low = λ v f. absurd (refused-not _ refl f) })
-      go false e false = (
-        tellable _ (near-accepted 763 (length bytes)),
-        record { low = λ v f. let z : length bytes ≡ v = cc in omega (arith, few (ltb-false _ _ e)) },
-      )
+refusal-fitting : (number place : ℕ) (out : List ℕ) → 1 ≤ number → place ≤ 763 → Fitting (refused number place, out)
+refusal-fitting number place out some near =
+    (tellable _ (near-refused 763 number place some near), record { low = λ v f. absurd (refused-not _ refl f) })
 
-  pub fitting : (o : Outcome ℕ) (ds : List ℕ) → (o, ds) ≡ encoded s bytes out → Tellable o × Short o
-  fitting o ds e = rw (ap (λ (q : Outcome ℕ × List ℕ). q .0) e) encoded-fitting
+module _ (bytes out : List ℕ) where
+  written-fitting : length bytes ≤ 763 → Fitting (written bytes out)
+  unfolding written
+  written-fitting few = go (ltb (length out) (length bytes))
+    where
+      go : (b : Bool) → Fitting (cond b (refused 1 0, out) (accepted (length bytes), bytes ++ drop (length bytes) out))
+      go true = refusal-fitting 1 0 out (omega arith) (omega arith)
+      go false = (tellable _ (near-accepted 763 (length bytes)), record { low = λ v f. let z : length bytes ≡ v = cc in omega arith })
+
+  pub fitting : (links : ℕ) → (links ≤ 63 → length bytes ≤ 763) → (o : Outcome ℕ) (ds : List ℕ) → (o, ds) ≡ encoded links bytes out → Tellable o × Short o
+  unfolding encoded
+  fitting links few o ds e = rw (ap (λ (q : Outcome ℕ × List ℕ). q .0) e) (go (ltb 63 links) refl)
+    where
+      go : (a : Bool) → ltb 63 links ≡ a → Fitting (cond a (refused 14 0, out) (written bytes out))
+      go true e = refusal-fitting 14 0 out (omega arith) (omega arith)
+      go false e = written-fitting (few (ltb-false _ _ e))
+
+  pub unless-fitting : (t : Bool) (links : ℕ) → (t ≡ true → length bytes ≤ 763) → (o : Outcome ℕ) (ds : List ℕ) → (o, ds) ≡ writtenUnless (handedFault t links) bytes out
+      → Tellable o × Short o
+  unfolding writtenUnless handedFault
+  unless-fitting t links few o ds e = rw (ap (λ (q : Outcome ℕ × List ℕ). q .0) e) (go t few (eqb links 0))
+    where
+      go : (a : Bool) → (a ≡ true → length bytes ≤ 763) → (b : Bool)
+          → Fitting (cond (eqb (cond a (cond b 9 0) 14) 0) (written bytes out) (refused (cond a (cond b 9 0) 14) 0, out))
+      go true few true = refusal-fitting 9 0 out (omega arith) (omega arith)
+      go true few false = written-fitting (few refl)
+      go false few b = refusal-fitting 14 0 out (omega arith) (omega arith)
 
 pub plan-few : (s : Site) → s .links ≤ 63 → length (planBytes s) ≤ 763
 plan-few s l = omega (arith, plan-size s (sizeOf 1) refl _ refl, nodes-few s (sizeOf 1) refl l, flows-few s)
 
-pub schedule-few : (s : Site) (offsets periods : List ℕ) → s .links ≤ 63 → length (scheduleBytes (s .links) offsets periods) ≤ 763
-schedule-few s offsets periods l =
-    omega (arith, schedule-size offsets periods (s .links) (scheduleSize 17) refl, links-few (scheduleSize 17) (s .links) refl l)
+pub schedule-few : (s : Schedule) → s .links ≤ 63 → length (scheduleBytes s) ≤ 763
+schedule-few s l = omega (arith, schedule-size s (scheduleSize 17) refl, links-few s (scheduleSize 17) refl l)
 
 -- The loop that counts the live flows: those below n are counted.
 pub record Counting (s : Site) (n count : ℕ) : Type 0 where

@@ -3,7 +3,7 @@ use borrow.Author.Needs.{needs}
 use mathlib.Core.Path.{_∙_}
 use native.Mathlib.Omega.{arith}
 use Rattle.embed.specs.Calls.{markOf}
-use Rattle.embed.proofs.Laws.Calls.{read-close, by-yes, by-no}
+use Rattle.embed.proofs.Laws.Calls.{by-yes, by-no, read-yes, read-no, read-close}
 use Rattle.embed.proofs.slotplan_mark.Statement.{statement}
 use Rattle.embed.proofs.slotplan_mark.Tie as tie
 
@@ -24,11 +24,11 @@ refusal-requires c κs = read-close _ _ _ (c .before .before .before .read-plan 
 
 returns : tie.Need-returns
 unfolding markOf
-returns c = c .sizes .ensures ∙ by-yes _ _ _ (c .before .before .before .read-plan .ensures) _ _ (c .before .enum-told .given .1)
+returns c = c .sizes .ensures ∙ by-yes _ _ _ _ (read-yes _ _ _ (c .before .before .before .read-plan .ensures) (c .before .enum-told .given .1))
 
 returns-2 : tie.Need-returns-2
 unfolding markOf
-returns-2 c = c .refusal .ensures ∙ by-no _ _ _ (c .before .before .before .before .read-plan .ensures) _ _ _ _ (c .before .before .verdict .given .1)
+returns-2 c = c .refusal .ensures ∙ by-no _ _ _ _ _ (read-no _ _ _ (c .before .before .before .before .read-plan .ensures) _ _ (c .before .before .verdict .given .1))
 
 pub slotplan-mark-spec : {M : Type 1} → statement M
 slotplan-mark-spec =

@@ -3,7 +3,7 @@ use borrow.Author.Needs.{needs}
 use mathlib.Core.Path.{_∙_}
 use native.Mathlib.Omega.{arith}
 use Rattle.embed.specs.Calls.{scheduleFrom}
-use Rattle.embed.proofs.Laws.Calls.{read-standing, read-yes, read-close, by-yes, by-no}
+use Rattle.embed.proofs.Laws.Calls.{read-standing, by-yes, by-no, read-yes, read-no, read-close}
 use Rattle.embed.proofs.slotplan_schedule.Statement.{statement}
 use Rattle.embed.proofs.slotplan_schedule.Tie as tie
 
@@ -13,8 +13,8 @@ read-plan-requires c κs = search needs
 enum-told : tie.Need-enum-told
 enum-told c = search needs
 
-schedule-of-requires : tie.Need-schedule-of-requires
-schedule-of-requires c κs = read-standing _ (λ i. omega (arith, c .before .before .before .before .before .shared-slice-known .given i)) _ (read-yes _ _ _ (c .before .before .before .read-plan .ensures) (c .before .enum-told .given .1))
+scheduled-requires : tie.Need-scheduled-requires
+scheduled-requires c κs = read-standing _ (λ i. omega (arith, c .before .before .before .before .before .shared-slice-known .given i)) _ (read-yes _ _ _ (c .before .before .before .read-plan .ensures) (c .before .enum-told .given .1))
 
 enum-known-verdict : tie.Need-enum-known-verdict
 enum-known-verdict c = search needs
@@ -27,11 +27,11 @@ same-length c = search needs
 
 returns : tie.Need-returns
 unfolding scheduleFrom
-returns c = c .before .before .schedule-of .ensures ∙ by-yes _ _ _ (c .before .before .before .before .before .before .read-plan .ensures) _ _ (c .before .before .before .before .enum-told .given .1)
+returns c = c .before .before .scheduled .ensures ∙ by-yes _ _ _ _ (read-yes _ _ _ (c .before .before .before .before .before .before .read-plan .ensures) (c .before .before .before .before .enum-told .given .1))
 
 returns-2 : tie.Need-returns-2
 unfolding scheduleFrom
-returns-2 c = rw (c .refusal .ensures) (by-no _ _ _ (c .before .before .before .before .read-plan .ensures) _ _ _ _ (c .before .before .verdict .given .1))
+returns-2 c = rw (c .refusal .ensures) (by-no _ _ _ _ _ (read-no _ _ _ (c .before .before .before .before .read-plan .ensures) _ _ (c .before .before .verdict .given .1)))
 
 pub slotplan-schedule-spec : {M : Type 1} → statement M
 slotplan-schedule-spec =
@@ -39,7 +39,7 @@ slotplan-schedule-spec =
     (tie.spec
     read-plan-requires
     enum-told
-    schedule-of-requires
+    scheduled-requires
     enum-known-verdict
     refusal-requires
     same-length
