@@ -2,29 +2,6 @@
 // A line that begins with `P` gives a plan in hexadecimal. Each other line gives the slice's length and then changes of the site that this plan
 // reads to, each a field, an index and a value. A line that begins with `#` is printed as it stands.
 use site::Site;
-use writer::Written;
-ghost use mathlib.Core.Path.{_≡_};
-ghost use lib.ListN.{length};
-
-// Byte i is 100 + i, so that every byte that a writer leaves alone can be told.
-fn numbered() -> [u8; 64]
-    ensures { λ r. ⌜ 64 ≡ length r ⌝ }
-{
-    let mut out = [0u8; 64];
-    let mut i: u8 = 0;
-    while i < 64 {
-        out[i as usize] = 100 + i;
-        i += 1;
-    }
-    out
-}
-
-// A writer's answer, and what the slice holds then.
-fn print_written(name: &[u8], written: Written, out: &[u8]) {
-    test_text::print_written(name, written);
-    io::write_all(1, b":");
-    report::print_hex(out);
-}
 
 // What the check says, and what the writers, one after the other, answer and leave in the slice.
 fn show(site: Site, out: &mut [u8]) {
@@ -34,16 +11,16 @@ fn show(site: Site, out: &mut [u8]) {
         io::write_all(1, b"does not pass");
     }
     let plan_written = writer::write_plan(site, out);
-    print_written(b", plan", plan_written, out);
+    test_text::print_left(b", plan", plan_written, out);
     let schedule_written = writer::write_schedule(site, out);
-    print_written(b", schedule", schedule_written, out);
+    test_text::print_left(b", schedule", schedule_written, out);
     io::write_all(1, b"\n");
 }
 
 fn show_case(line: &[u8], site: Site) {
     let room = test_text::next_number(line, 0);
     let n = room.value;
-    let mut out = numbered();
+    let mut out = test_text::numbered();
     let next = test_sites::altered(site, line, room.next);
     if n <= 64 {
         show(next, &mut out[..n]);

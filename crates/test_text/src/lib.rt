@@ -212,3 +212,47 @@ pub fn print_written(name: &[u8], written: Written) {
         Written::Refused(number, place) => report::print_refusal(b" refused ", number, place),
     }
 }
+
+// Byte i is 100 + i, so that every byte that a writer leaves alone can be told.
+pub fn numbered() -> [u8; 64]
+    ensures { λ r. ⌜ 64 ≡ length r ⌝ }
+{
+    let mut out = [0u8; 64];
+    let mut i: u8 = 0;
+    while i < 64 {
+        out[i as usize] = 100 + i;
+        i += 1;
+    }
+    out
+}
+
+// A writer's answer, and what the slice holds then.
+pub fn print_left(name: &[u8], written: Written, out: &[u8]) {
+    print_written(name, written);
+    io::write_all(1, b":");
+    report::print_hex(out);
+}
+
+fn differs(a: u8, b: u8) -> usize
+    ensures { λ r. ⌜ r ≤ 1 ⌝ }
+{
+    if a == b {
+        return 0;
+    }
+    1
+}
+
+// How many of the first slice's bytes the second has otherwise, or not at all.
+pub fn differing(a: &[u8], b: &[u8]) -> usize {
+    let n = a.len();
+    if b.len() < n {
+        return n;
+    }
+    let mut count = 0;
+    let mut i = 0;
+    while i < n {
+        count += differs(a[i], b[i]);
+        i += 1;
+    }
+    count
+}

@@ -2,38 +2,13 @@
 // A line that begins with `#` is printed as it stands.
 use schedule::Verdict;
 use site::Site;
-ghost use Prim.Native.Nat.{_≤_};
 use writer::Written;
-
-fn differs(a: u8, b: u8) -> usize
-    ensures { λ r. ⌜ r ≤ 1 ⌝ }
-{
-    if a == b {
-        return 0;
-    }
-    1
-}
-
-// How many of the first slice's bytes the second has otherwise, or not at all.
-fn differing(a: &[u8], b: &[u8]) -> usize {
-    let n = a.len();
-    if b.len() < n {
-        return n;
-    }
-    let mut count = 0;
-    let mut i = 0;
-    while i < n {
-        count += differs(a[i], b[i]);
-        i += 1;
-    }
-    count
-}
 
 // Writes the site into a slice of just the plan's length and compares.
 fn print_again(bytes: &[u8], site: Site, out: &mut [u8]) {
     let written = writer::write_plan(site, out);
     test_text::print_written(b" plan", written);
-    if differing(bytes, out) == 0 {
+    if test_text::differing(bytes, out) == 0 {
         io::write_all(1, b" equal");
     }
 }

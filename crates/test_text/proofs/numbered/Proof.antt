@@ -4,8 +4,8 @@ use Prim.Native.Nat.{_≤_, _-_}
 use mathlib.Core.Path.{_≡_}
 use lib.ListN.{length, length-set}
 use native.Mathlib.Omega.{arith}
-use Rattle.test_altered.proofs.numbered.Statement.{statement}
-use Rattle.test_altered.proofs.numbered.Tie as tie
+use Rattle.test_text.proofs.numbered.Statement.{statement}
+use Rattle.test_text.proofs.numbered.Tie as tie
 
 abbrev Inv-loop : tie.InvT-loop
 Inv-loop out₀ i₀ out i = (i ≤ 64) × (length out ≡ 64)

@@ -1,8 +1,8 @@
 -- Right because the count is at most i and the index stays within both slices; n - i falls.
 use borrow.Author.Needs.{needs}
 use Prim.Native.Nat.{_-_, _≤_}
-use Rattle.test_vectors.proofs.differing.Statement.{statement}
-use Rattle.test_vectors.proofs.differing.Tie as tie
+use Rattle.test_text.proofs.differing.Statement.{statement}
+use Rattle.test_text.proofs.differing.Tie as tie
 
 abbrev Inv-loop : tie.InvT-loop
 Inv-loop a b n count₀ i₀ count i = (count ≤ i) × (i ≤ n)
