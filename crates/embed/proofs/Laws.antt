@@ -165,7 +165,7 @@ schedule-file-reads links offsets periods out size new e starts lengths long as-
     let b = of-list periods 63 _ _ _ (λ q. unlike (ap (λ (r : Outcome ℕ × List ℕ). r .0) q)) (a .1) in
     let w = schedule-made (record { links = links; offsets = offsets; periods = periods }) out new size (b .1) in (
       sym (by-yes (scheduleRead (take size new)) linksOf _ _ (w .0)
-      ∙ of-length lengths 63 _ _ as-long ∙ of-length starts 63 _ _ long),
+          ∙ of-length lengths 63 _ _ as-long ∙ of-length starts 63 _ _ long),
       w .1,
     )
 

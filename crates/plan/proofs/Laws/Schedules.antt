@@ -268,11 +268,18 @@ module _ (bytes : List ℕ) where
     where
       go : (m : ℕ) × (s : Schedule) × Reached bytes m s × Stop schedules bytes m s
           → Came schedules bytes (scheduleRead bytes) itself linksOf itself (ScheduleBegun bytes) (linkChecks bytes) Ready in-words
-      go (m, s, r, stop) = (m, s, record {
-        listed = r .listed;
-        within = r .within;
-        are = ap (take m) (r .are) ∙ take-at (links s) (drop m bytes) m (sym (r .size));
-      }, tt, r .here, stop)
+      go (m, s, r, stop) = (
+        m,
+        s,
+        record {
+          listed = r .listed;
+          within = r .within;
+          are = ap (take m) (r .are) ∙ take-at (links s) (drop m bytes) m (sym (r .size));
+        },
+        tt,
+        r .here,
+        stop,
+      )
 
   pub schedule-why : Bytes bytes → (number place : ℕ) → (scheduleRead bytes ≡ refused number place) ↔ ScheduleFails bytes number place
   schedule-why small number place =
