@@ -31,6 +31,7 @@ mod random_sites;
 mod rehearsal;
 mod rehearse_lines;
 mod rules;
+mod schedules;
 mod shrink;
 mod slots;
 #[cfg(test)]
