@@ -224,7 +224,7 @@ fn random_room(random: &mut Random, needed: u64) -> u64 {
 mod tests {
     use super::*;
 
-    /// Files of which nothing is damaged are accepted, so what is refused shows a damage.
+    /// The accepted ones reach the limits of links, periods and offsets.
     #[test]
     fn about_half_of_the_files_are_accepted() {
         let mut random = Random::from_seed(8);

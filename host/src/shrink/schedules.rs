@@ -26,9 +26,7 @@ impl Shrinking<'_> {
         }
         for at in (0..length).rev() {
             if !self.attempt_file(index, |file| drop_bytes(file, at, 1)) {
-                self.attempt_file(index, |file| {
-                    file.iter_mut().skip(at).take(1).for_each(clear)
-                });
+                self.attempt_file(index, |file| clear_byte(file, at));
             }
         }
     }
@@ -70,8 +68,10 @@ impl Shrinking<'_> {
     }
 }
 
-fn clear(byte: &mut u8) {
-    *byte = 0;
+fn clear_byte(file: &mut [u8], at: usize) {
+    if let Some(byte) = file.get_mut(at) {
+        *byte = 0;
+    }
 }
 
 fn drop_bytes(file: &mut Vec<u8>, at: usize, count: usize) {
@@ -172,7 +172,7 @@ mod tests {
         }
     }
 
-    /// As much as one link and one entry past it have to stay.
+    /// One link and one entry past it have to stay.
     #[test]
     fn links_and_entries_that_are_not_needed_go() {
         let schedule = HandedSchedule {
