@@ -81,23 +81,52 @@ static void open_site(struct site *site, const uint8_t *plan, size_t length)
     value_of(slotplan_start(plan_of(site), site->length, site->counters, SLOTPLAN_COUNTERS), "start");
 }
 
-static unsigned of_16_bits(const uint8_t *bytes)
+/* A schedule file read back: link n stands at index n - 1 of both lists. */
+struct schedule {
+    uint8_t links;
+    uint16_t offsets[SLOTPLAN_LINKS_MOST];
+    uint16_t periods[SLOTPLAN_LINKS_MOST];
+};
+
+static void read_back(struct schedule *schedule, const uint8_t *file, size_t length)
 {
-    return bytes[0] + 256u * bytes[1];
+    uint64_t links = value_of(slotplan_read_schedule(file, length,
+                                                     schedule->offsets, SLOTPLAN_LINKS_MOST,
+                                                     schedule->periods, SLOTPLAN_LINKS_MOST),
+                              "read_schedule");
+
+    /* At most 63. */
+    schedule->links = (uint8_t)links;
+}
+
+static void write_again(const struct schedule *schedule, const uint8_t *file, size_t length)
+{
+    uint8_t again[SLOTPLAN_SCHEDULE_MOST];
+    uint64_t written = value_of(slotplan_write_schedule(schedule->links,
+                                                        schedule->offsets, SLOTPLAN_LINKS_MOST,
+                                                        schedule->periods, SLOTPLAN_LINKS_MOST,
+                                                        again, sizeof again), "write_schedule");
+    int equal = written == length && memcmp(again, file, length) == 0;
+
+    printf("schedule of %zu bytes, read and written again: %s\n", length,
+           equal ? "equal" : "not equal");
+    expect(equal, "the schedule written again");
 }
 
 static void print_schedule(const struct site *site)
 {
-    uint8_t schedule[SLOTPLAN_SCHEDULE_MOST];
-    uint64_t length = value_of(slotplan_schedule(plan_of(site), site->length,
-                                                 schedule, sizeof schedule), "schedule");
-    const uint8_t *link;
+    uint8_t file[SLOTPLAN_SCHEDULE_MOST];
+    size_t length = (size_t)value_of(slotplan_schedule(plan_of(site), site->length,
+                                                       file, sizeof file), "schedule");
+    struct schedule schedule;
+    size_t index;
 
-    /* Each link has six bytes; the last byte of all is FF. */
-    for (link = schedule; link + 6 < schedule + length; link += 6) {
-        printf("link %u: offset %u, period %u\n", link[1], of_16_bits(link + 2),
-               of_16_bits(link + 4));
+    read_back(&schedule, file, length);
+    for (index = 0; index < schedule.links; index++) {
+        printf("link %zu: offset %u, period %u\n", index + 1, schedule.offsets[index],
+               schedule.periods[index]);
     }
+    write_again(&schedule, file, length);
 }
 
 /* A flow number 5 at node 2 with a deadline of 6 slots. */

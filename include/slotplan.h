@@ -20,28 +20,32 @@
  * offsets, deadlines and bounds are slots.
  *
  * Each function lists its checks in their order.  The first that fails refuses the call, with its
- * number and a place; then all memory is as it was before.  The numbers are those of document 01:
+ * number and a place; then all memory is as it was before.  The numbers are those of documents 01
+ * and 02:
  *
  *    1  a buffer to be filled is too short; any other list has not the length it must have
  *    2  the operands of a command are cut off, or there is no END
- *    3  a command that plans do not have
+ *    3  a command that plans do not have; in a schedule file, any command but LINK and END
  *    4  a NODE after a FLOW
  *    5  a number outside its limits
  *    6  a parent not below its node, a node that the site does not have, flow numbers not rising
  *    7  a 64th NODE
  *    8  a node deeper than 8
- *    9  END with no NODE before it
+ *    9  END with no NODE before it, in a schedule file with no LINK; a schedule without links
  *   10  bytes after END
  *   11  crowded: no base fits the children of a parent
  *   12  the widths on a link sum to more than its capacity
  *   13  the gaps wanted on a flow's route sum to more than its deadline
- *   14  the plan bytes are refused; slotplan_mark tells by which check and where
+ *   14  the plan bytes are refused; slotplan_mark tells by which check and where.  Or no file reads
+ *       to the schedule that is handed in; for the one without links there is 9
  *   15  the flow number is live already
  *   16  the flow number is not live
  *   17  the flow's width does not fit beside the live ones
  *   18  the gaps wanted on the route sum to more than the deadline of the new flow
  *   19  a flow's nine cells and its arrival sum to more than 4,294,967,295
  *   20  arrivals for a flow number that is not live
+ *   21  link numbers of a schedule file that are not 1, 2, 3 up to at most 63 in order
+ *   22  a period outside 1 to 1,024 in a schedule file, or an offset that is not below it
  */
 #ifndef SLOTPLAN_H
 #define SLOTPLAN_H
@@ -53,7 +57,7 @@
 extern "C" {
 #endif
 
-#define SLOTPLAN_LINKS_MOST 63     /* links of a site, gaps of a list */
+#define SLOTPLAN_LINKS_MOST 63     /* links of a site, gaps of a list; length of a schedule's two lists */
 #define SLOTPLAN_NUMBERS 64        /* flow numbers, 0 to 63: the length of every list of arrivals */
 #define SLOTPLAN_CELLS 9           /* of a flow number: eight queues from its entry link up, delivered */
 #define SLOTPLAN_COUNTERS 576      /* SLOTPLAN_NUMBERS times SLOTPLAN_CELLS */
@@ -88,6 +92,29 @@ slotplan_answer slotplan_mark(const uint8_t *plan, size_t plan_length);
  * Checks: those of slotplan_mark, with their places; 1 for out, place 0. */
 slotplan_answer slotplan_schedule(const uint8_t *plan, size_t plan_length,
                                   uint8_t *out, size_t out_length);
+
+/* Reads a schedule file in the form that slotplan_schedule writes: LINK commands, then END.  Both
+ * lists have SLOTPLAN_LINKS_MOST elements.  Value: the number of links.  Offset and period of link n
+ * stand at index n - 1; the elements past the links become 0.  Links are not compared with each
+ * other, so two of them may have a slot in common.
+ * Checks: 1 for offsets or periods, place 0; for each command 3, 2, 21, 22; at END 9, 10.
+ * Places: offset of the command (of 10, of the first byte after END; of 2 without END, the number
+ * of bytes). */
+slotplan_answer slotplan_read_schedule(const uint8_t *file, size_t file_length,
+                                       uint16_t *offsets, size_t offsets_length,
+                                       uint16_t *periods, size_t periods_length);
+
+/* Writes a schedule that is handed in, the number of its links and two lists as
+ * slotplan_read_schedule fills them, into the front of out, in the form that slotplan_schedule
+ * writes.  Value: the number of bytes written.  The rest of out keeps what it held.  A file that was
+ * read is written again to equal bytes.
+ * Checks: 1 for offsets or periods, 14, 9, place 0; 1 for out, place 0.  What 14 refuses: more than
+ * 63 links; a link whose period is outside 1 to 1,024 or whose offset is not below it; an element
+ * past the links that is not 0. */
+slotplan_answer slotplan_write_schedule(uint8_t links,
+                                        const uint16_t *offsets, size_t offsets_length,
+                                        const uint16_t *periods, size_t periods_length,
+                                        uint8_t *out, size_t out_length);
 
 /* Takes a flow in: its number, its entry node, its rate in packets a slot, its deadline in slots.
  * The plan bytes with the flow go into the front of out, the nine cells of its number become 0.

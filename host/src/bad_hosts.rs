@@ -1,14 +1,18 @@
 //! Hosts that hand in any bytes, numbers and lengths. Whatever a call must not write is compared after it.
 
-use crate::bytes::END;
+mod schedules;
+
+use crate::bytes::{END, LINK};
 use crate::calls::{CELLS, COUNTERS};
 use crate::compare::status_of;
 use crate::library::{self, Answer, NewFlow};
 use crate::programs::hex;
 use crate::random::Random;
 use crate::random_gaps::gap_list;
+use crate::random_schedules::undamaged_file;
 use crate::random_sites::site_to_alter;
 use crate::rules::{refuse, FLOW_NUMBERS};
+use schedules::Scheduler;
 use std::fmt;
 use std::ops::Range;
 
@@ -55,6 +59,11 @@ impl<T: Copy + PartialEq + From<u8>> Lent<T> {
 
     fn restore(&mut self) {
         self.cells.copy_from_slice(&self.as_lent);
+    }
+
+    /// What it holds now is what the next call is lent.
+    fn keep(&mut self) {
+        self.as_lent.copy_from_slice(&self.cells);
     }
 }
 
@@ -203,11 +212,13 @@ impl Children {
 /// The most bytes of a random plan. The longest plan has 763.
 const MOST_BYTES: usize = 900;
 const TRUE_PLANS: usize = 200;
+const TRUE_SCHEDULES: usize = 100;
 
 /// The strings, the calls made with them, and how many were accepted.
 struct BadHosts {
     margin: usize,
-    true_plans: Vec<Vec<u8>>,
+    /// Plans and schedule files.
+    true_files: Vec<Vec<u8>>,
     strings: u64,
     calls: u64,
     accepted: u64,
@@ -226,33 +237,35 @@ impl fmt::Display for BadHosts {
 
 impl BadHosts {
     fn new(margin: usize, random: &mut Random) -> BadHosts {
+        let mut true_files: Vec<_> = (0..TRUE_PLANS).map(|_| site_to_alter(random).0).collect();
+        true_files.extend((0..TRUE_SCHEDULES).map(|_| undamaged_file(random)));
         BadHosts {
             margin,
-            true_plans: (0..TRUE_PLANS).map(|_| site_to_alter(random).0).collect(),
+            true_files,
             strings: 0,
             calls: 0,
             accepted: 0,
         }
     }
 
-    /// Any bytes; bytes that look like commands; a true plan cut off with any bytes behind it; a true plan with some bytes other.
+    /// Any bytes; bytes that look like commands; a true file cut off with any bytes behind it; a true file with some bytes other.
     fn random_bytes(&self, random: &mut Random) -> Vec<u8> {
         let length = random.index(MOST_BYTES + 1);
-        let plan = &self.true_plans[random.index(TRUE_PLANS)];
+        let file = &self.true_files[random.index(self.true_files.len())];
         match random.between(0, 3) {
             0 => (0..length).map(|_| random.byte()).collect(),
             1 => (0..length)
-                .map(|_| random.pick(&[0, 0, 0, 1, 1, 1, 2, 2, 3, 9, 64, END]))
+                .map(|_| random.pick(&[0, 0, 0, 1, 1, 1, 2, 2, 3, 9, LINK, 64, END]))
                 .collect(),
             2 => {
-                let kept = random.index(plan.len() + 1);
+                let kept = random.index(file.len() + 1);
                 let others = random.pick(&[0, 1, 5, length]);
-                let mut bytes = plan[..kept].to_vec();
+                let mut bytes = file[..kept].to_vec();
                 bytes.extend((0..others).map(|_| random.byte()));
                 bytes
             }
             _ => {
-                let mut bytes = plan.clone();
+                let mut bytes = file.clone();
                 for _ in 0..random.between(0, 3).min(bytes.len() as u64) {
                     let place = random.index(bytes.len());
                     bytes[place] = random.byte();
@@ -263,14 +276,14 @@ impl BadHosts {
     }
 
     /// Counters and arrivals mostly have the right lengths, so that the bytes decide.
-    fn random_host(&self, random: &mut Random) -> Host {
+    fn random_host(&self, random: &mut Random, plan: &[u8]) -> Host {
         let any = [random.index(701), random.index(131)];
         let counters = random.pick(&[[COUNTERS; 9].as_slice(), &any[..1]].concat());
         let arrivals = random.pick(&[[FLOW_NUMBERS; 9].as_slice(), &any[1..]].concat());
         let cell = random.pick(&[0, 1, u32::MAX]);
         let coming = random.pick(&[0, 0, 1, u16::MAX]);
         Host {
-            plan: Lent::of(&self.random_bytes(random), self.margin),
+            plan: Lent::of(plan, self.margin),
             counters: Lent::of(&vec![cell; counters], self.margin),
             arrivals: Lent::of(&vec![coming; arrivals], self.margin),
             out: Lent::of(&vec![0xA5; random.index(MOST_BYTES)], self.margin),
@@ -284,7 +297,8 @@ impl BadHosts {
 
     /// One string through the functions. Those that change the site refuse by 14 just what slotplan_mark refuses.
     fn try_string(&mut self, random: &mut Random) -> Result<(), String> {
-        let mut host = self.random_host(random);
+        let bytes = self.random_bytes(random);
+        let mut host = self.random_host(random, &bytes);
         let operand = random.between(0, u64::from(u32::MAX)) as u32;
         let flow = NewFlow {
             number: random.pick(&[random_number(operand), operand as u8]),
@@ -297,7 +311,10 @@ impl BadHosts {
         let admitted = host.admit(flow)?;
         let passed = host.slot(operand)?;
         let other = self.try_other(&mut host, random, flow.number)?;
-        for answer in [marked, scheduled, admitted, passed, other] {
+        let links = random.pick(&[0, 1, 63, 64, operand as u8]);
+        let [read, written] =
+            Scheduler::random(random, &bytes, self.margin).read_and_write(links)?;
+        for answer in [marked, scheduled, admitted, passed, other, read, written] {
             self.count(answer);
         }
         self.strings += 1;

@@ -1,4 +1,4 @@
-//! Plan bytes read and written, the schedule written, and check 14.
+//! Plan bytes read and written, the schedule of a site written, and check 14.
 
 use crate::rules::{
     refuse, Flow, Refusal, Site, CAPACITIES, FLOW_NUMBERS, GAPS, MOST_DEPTH, MOST_LINKS,
@@ -12,11 +12,12 @@ pub const END: u8 = 0xFF;
 /// NODE, FLOW and LINK each have five bytes of operands.
 pub const COMMAND_LENGTH: usize = 6;
 
-/// 01: for a command 3 comes before 2, and the end of the bytes is a missing END.
-fn operands(bytes: &[u8], at: usize) -> Result<&[u8], Refusal> {
+/// The operands of a command that begins with one of the known bytes. 01: for a command 3 comes before 2, and the end of the
+/// bytes is a missing END.
+pub fn operands<'a>(bytes: &'a [u8], at: usize, known: &[u8]) -> Result<&'a [u8], Refusal> {
     match bytes.get(at) {
         None => refuse(2, bytes.len()),
-        Some(&NODE) | Some(&FLOW) => match bytes.get(at + 1..at + COMMAND_LENGTH) {
+        Some(first) if known.contains(first) => match bytes.get(at + 1..at + COMMAND_LENGTH) {
             None => refuse(2, at),
             Some(operands) => Ok(operands),
         },
@@ -25,7 +26,7 @@ fn operands(bytes: &[u8], at: usize) -> Result<&[u8], Refusal> {
 }
 
 /// 01, "Plan bytes": low byte first.
-fn of_16_bits(bytes: &[u8]) -> u64 {
+pub fn of_16_bits(bytes: &[u8]) -> u64 {
     u64::from(bytes[0]) + 256 * u64::from(bytes[1])
 }
 
@@ -76,8 +77,9 @@ fn add_flow(site: &mut Site, operands: &[u8], at: usize) -> Result<(), Refusal> 
     Ok(())
 }
 
-fn check_end(site: &Site, bytes: &[u8], at: usize) -> Result<(), Refusal> {
-    if site.links == 0 {
+/// END after so many links.
+pub fn check_end(links: u64, bytes: &[u8], at: usize) -> Result<(), Refusal> {
+    if links == 0 {
         return refuse(9, at);
     }
     if at + 1 < bytes.len() {
@@ -90,7 +92,7 @@ pub fn read_plan(bytes: &[u8]) -> Result<Site, Refusal> {
     let mut site = Site::empty();
     let mut at = 0;
     while bytes.get(at) != Some(&END) {
-        let operands = operands(bytes, at)?;
+        let operands = operands(bytes, at, &[NODE, FLOW])?;
         if bytes[at] == NODE {
             add_node(&mut site, operands, at)?;
         } else {
@@ -98,7 +100,7 @@ pub fn read_plan(bytes: &[u8]) -> Result<Site, Refusal> {
         }
         at += COMMAND_LENGTH;
     }
-    check_end(&site, bytes, at)?;
+    check_end(site.links, bytes, at)?;
     site.settle()?;
     Ok(site)
 }
@@ -121,6 +123,13 @@ pub fn flow_command(number: u64, entry: u64, rate: u64, deadline: u64) -> Vec<u8
     bytes
 }
 
+pub fn link_command(link: u64, offset: u64, period: u64) -> Vec<u8> {
+    let mut bytes = vec![LINK, link as u8];
+    push_16_bits(&mut bytes, offset);
+    push_16_bits(&mut bytes, period);
+    bytes
+}
+
 fn plan_bytes(site: &Site) -> Vec<u8> {
     let mut bytes = Vec::new();
     for index in site.nodes().into_iter().map(|node| node - 1) {
@@ -138,10 +147,8 @@ fn plan_bytes(site: &Site) -> Vec<u8> {
 fn schedule_bytes(site: &Site) -> Vec<u8> {
     let mut bytes = Vec::new();
     for node in site.nodes() {
-        bytes.push(LINK);
-        bytes.push(node as u8);
-        push_16_bits(&mut bytes, site.offsets[node - 1]);
-        push_16_bits(&mut bytes, site.periods[node - 1]);
+        let (offset, period) = (site.offsets[node - 1], site.periods[node - 1]);
+        bytes.extend(link_command(node as u64, offset, period));
     }
     bytes.push(END);
     bytes
@@ -160,28 +167,28 @@ pub fn check_14(site: &Site) -> Result<(), Refusal> {
     Ok(())
 }
 
-/// 01: 14, then 9, and the slice last.
-fn fill(slice: &mut [u8], site: &Site, form: fn(&Site) -> Vec<u8>) -> Result<usize, Refusal> {
-    check_14(site)?;
-    if site.links == 0 {
+/// 01: 9 comes before 1, which judges the slice.
+pub fn fill(slice: &mut [u8], links: u64, bytes: &[u8]) -> Result<usize, Refusal> {
+    if links == 0 {
         return refuse(9, 0);
     }
-    let bytes = form(site);
     if slice.len() < bytes.len() {
         return refuse(1, 0);
     }
-    slice[..bytes.len()].copy_from_slice(&bytes);
+    slice[..bytes.len()].copy_from_slice(bytes);
     Ok(bytes.len())
 }
 
 /// The number of bytes written, the rest of the slice unchanged.
 pub fn write_plan(site: &Site, slice: &mut [u8]) -> Result<usize, Refusal> {
-    fill(slice, site, plan_bytes)
+    check_14(site)?;
+    fill(slice, site.links, &plan_bytes(site))
 }
 
 /// The number of bytes written, the rest of the slice unchanged.
 pub fn write_schedule(site: &Site, slice: &mut [u8]) -> Result<usize, Refusal> {
-    fill(slice, site, schedule_bytes)
+    check_14(site)?;
+    fill(slice, site.links, &schedule_bytes(site))
 }
 
 pub type Writer = fn(&Site, &mut [u8]) -> Result<usize, Refusal>;

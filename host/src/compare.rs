@@ -2,13 +2,15 @@
 
 use crate::damage::random_plan;
 use crate::lines::first_difference;
-use crate::outcomes::{Tally, CALLS, GAP_LISTS, PLANS, SITES};
+use crate::outcomes::{Tally, CALLS, GAP_LISTS, PLANS, SCHEDULES, SITES};
 use crate::programs::{self, answered_lines, hex, slotplan, REHEARSE};
 use crate::random::Random;
 use crate::random_calls::call_lines;
 use crate::random_gaps::deals_line;
+use crate::random_schedules::schedule_lines;
 use crate::random_sessions::Sessions;
 use crate::random_sites::altered_lines;
+use crate::schedule_lines::readschedule;
 use std::fs;
 use std::io::Write;
 use std::path::{Path, PathBuf};
@@ -119,13 +121,13 @@ fn end_of_lines(text: &str, lines: usize) -> usize {
     text.split_inclusive('\n').take(lines).map(str::len).sum()
 }
 
-/// slotplan reads one plan, so it is run for each.
-fn compare_slotplan(program: &Path, plan: &[u8]) -> Result<(), String> {
+/// slotplan reads one plan and readschedule one schedule file, so they are run for each.
+fn compare_one(program: &Path, file: &[u8], expected: String) -> Result<(), String> {
     let case = Case {
-        input: format!("{}\n", hex(plan).trim_start()),
-        expected: slotplan(plan),
+        input: format!("{}\n", hex(file).trim_start()),
+        expected,
     };
-    compare(program, &[], plan, &[case])
+    compare(program, &[], file, &[case])
 }
 
 /// rehearse, which reads its plan from a file, so it is run for each session.
@@ -184,10 +186,12 @@ impl Drop for Rehearse {
 
 struct Comparison {
     slotplan: PathBuf,
+    readschedule: PathBuf,
     vectors: Feed,
     altered: Feed,
     deals: Feed,
     calls: Feed,
+    schedules: Feed,
     rehearse: Rehearse,
 }
 
@@ -196,22 +200,30 @@ impl Comparison {
         let feed = |name, heading, calls| Feed::new(name, folder, Tally::new(heading, calls));
         Comparison {
             slotplan: folder.join("slotplan"),
+            readschedule: folder.join("readschedule"),
             vectors: feed("test_vectors", "plans", PLANS),
             altered: feed("test_altered", "altered sites", SITES),
             deals: feed("test_deals", "gap lists", GAP_LISTS),
             calls: feed("test_calls", "calls", CALLS),
+            schedules: feed("test_schedules", "schedules", SCHEDULES),
             rehearse: Rehearse::new(folder),
         }
     }
 
-    fn feeds(&self) -> [&Feed; 4] {
-        [&self.vectors, &self.altered, &self.deals, &self.calls]
+    fn feeds(&self) -> [&Feed; 5] {
+        [
+            &self.vectors,
+            &self.altered,
+            &self.deals,
+            &self.calls,
+            &self.schedules,
+        ]
     }
 
     fn missing(&self) -> Vec<&Path> {
         let programs = self.feeds().map(|feed| feed.program.as_path());
-        let others = [self.slotplan.as_path(), self.rehearse.program.as_path()];
-        let all = others.into_iter().chain(programs);
+        let others = [&self.slotplan, &self.readschedule, &self.rehearse.program];
+        let all = others.map(PathBuf::as_path).into_iter().chain(programs);
         all.filter(|program| !program.is_file()).collect()
     }
 
@@ -220,16 +232,24 @@ impl Comparison {
         for _ in 0..count {
             let plan = random_plan(random);
             self.vectors.add(format!("{}\n", hex(&plan).trim_start()))?;
-            compare_slotplan(&self.slotplan, &plan)?;
+            compare_one(&self.slotplan, &plan, slotplan(&plan))?;
             self.altered.add(altered_lines(random))?;
             self.deals.add(deals_line(random))?;
             self.calls.add(call_lines(random))?;
+            self.compare_schedules(random)?;
             self.rehearse.compare(random)?;
         }
         self.vectors.run()?;
         self.altered.run()?;
         self.deals.run()?;
-        self.calls.run()
+        self.calls.run()?;
+        self.schedules.run()
+    }
+
+    fn compare_schedules(&mut self, random: &mut Random) -> Result<(), String> {
+        let (file, lines) = schedule_lines(random);
+        compare_one(&self.readschedule, &file, readschedule(&file))?;
+        self.schedules.add(lines)
     }
 
     fn print_counts(&self) {
@@ -308,6 +328,18 @@ mod tests {
         for _ in 0..600 {
             let lines = call_lines(&mut random);
             let lines = answered_lines("test_calls", lines.as_bytes()).unwrap();
+            lines.iter().for_each(|line| tally.count(line));
+        }
+        assert!(tally.all_reach(10), "{tally}");
+    }
+
+    #[test]
+    fn random_schedules_meet_every_outcome() {
+        let mut random = Random::from_seed(6);
+        let mut tally = Tally::new("", SCHEDULES);
+        for _ in 0..2000 {
+            let (_, lines) = schedule_lines(&mut random);
+            let lines = answered_lines("test_schedules", lines.as_bytes()).unwrap();
             lines.iter().for_each(|line| tally.count(line));
         }
         assert!(tally.all_reach(10), "{tally}");

@@ -7,7 +7,7 @@ use crate::library::Answer;
 use crate::outcomes::{Tally, FUNCTIONS};
 use crate::programs::Answered;
 use crate::random::Random;
-use crate::random_hosts::{dealt_list, marked_list, Host};
+use crate::random_hosts::{dealt_list, marked_list, schedule_list, Host};
 use crate::shrink::shrink;
 use std::fmt;
 
@@ -42,9 +42,10 @@ impl Comparison {
 
     fn run(&mut self, count: u64, random: &mut Random) -> Result<(), Difference> {
         while self.cases < count {
-            match random.between(0, 9) {
-                0..=3 => self.compare_list(marked_list(random))?,
-                4..=7 => self.compare_list(dealt_list(random))?,
+            match random.between(0, 13) {
+                0..=4 => self.compare_list(marked_list(random))?,
+                5..=8 => self.compare_list(dealt_list(random))?,
+                9..=11 => self.compare_list(schedule_list(random))?,
                 _ => self.compare_host(random)?,
             }
         }
@@ -281,6 +282,92 @@ mod tests {
         let result = comparison.run(1000, &mut Random::from_seed(21));
         let difference = result.expect_err("the mistake is not found");
         shows(&difference, "out[0]: found 11, expected ");
+    }
+
+    /// 22 before 21, for the first command.
+    fn late_21(file: &[u8], offsets: &mut [u16], periods: &mut [u16]) -> Answer {
+        let answer = model::read_schedule(file, offsets, periods);
+        if answer == refuse(21, 0) {
+            let numbered = [&[0x11, 1][..], &file[2..]].concat();
+            let judged = model::read_schedule(&numbered, &mut [0; 63], &mut [0; 63]);
+            return if judged == refuse(22, 0) {
+                judged
+            } else {
+                answer
+            };
+        }
+        answer
+    }
+
+    /// What the lists held past the links is left there.
+    fn short_read(file: &[u8], offsets: &mut [u16], periods: &mut [u16]) -> Answer {
+        let mut read = periods.to_vec();
+        let links = model::read_schedule(file, offsets, &mut read)?;
+        periods[..links as usize].copy_from_slice(&read[..links as usize]);
+        Ok(links)
+    }
+
+    #[test]
+    fn a_schedule_file_misread_is_found() {
+        let [order, rest] = [late_21, short_read].map(|read_schedule| {
+            let judged = Functions {
+                read_schedule,
+                ..MODEL
+            };
+            difference(judged, "read_schedule", 0)
+        });
+        shows(&order, "found refused 22 0, expected refused 21 0");
+        shows(
+            &order,
+            "read_schedule 11 00 00 00 00 00, offsets 63 periods 63",
+        );
+        shows(&rest, "periods[1]: found ");
+        shows(&rest, ", expected 0\n");
+        shows(&rest, "read_schedule 11 01 00 00 ");
+        let Call::ReadSchedule { file, .. } = &rest.list.steps[0].call else {
+            panic!("{rest}");
+        };
+        assert_eq!(file.len(), 7, "{rest}");
+    }
+
+    /// Entries past the links are not looked at.
+    fn lax_write(links: u8, offsets: &[u16], periods: &[u16], out: &mut [u8]) -> Answer {
+        let used = |list: &[u16]| -> Vec<u16> {
+            let entries = list.iter().enumerate();
+            let used = |(index, &entry)| if index < usize::from(links) { entry } else { 0 };
+            entries.map(used).collect()
+        };
+        model::write_schedule(links, &used(offsets), &used(periods), out)
+    }
+
+    /// The byte behind END is cleared too.
+    fn long_write(links: u8, offsets: &[u16], periods: &[u16], out: &mut [u8]) -> Answer {
+        let length = model::write_schedule(links, offsets, periods, out)?;
+        if let Some(byte) = out.get_mut(length as usize) {
+            *byte = 0;
+        }
+        Ok(length)
+    }
+
+    #[test]
+    fn a_schedule_miswritten_is_found() {
+        let [lax, long] = [lax_write, long_write].map(|write_schedule| {
+            let judged = Functions {
+                write_schedule,
+                ..MODEL
+            };
+            difference(judged, "write_schedule", 0)
+        });
+        shows(&lax, "found refused 9 0, expected refused 14 0");
+        shows(&lax, "write_schedule links 00, offsets 63");
+        let Call::WriteSchedule { schedule, room } = &lax.list.steps[0].call else {
+            panic!("{lax}");
+        };
+        let entries = schedule.offsets.iter().chain(&schedule.periods);
+        assert_eq!((entries.sum::<u16>(), *room), (1, 0), "{lax}");
+        shows(&long, "out[7]: found 0, expected ");
+        let input = "write_schedule links 01, offsets 63, periods 63 0=0001, room 8\n";
+        shows(&long, input);
     }
 
     /// The counters are set before the buffer is judged.

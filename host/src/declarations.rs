@@ -147,7 +147,7 @@ fn the_crate_the_header_and_this_program_declare_the_same() {
     let header = declared_in("include/slotplan.h", of_header);
     let host = declared_in("host/src/library.rs", of_extern_block);
     assert_eq!(header, host);
-    assert_eq!(header.len(), 9);
+    assert_eq!(header.len(), 11);
     let of_crate = declared_in("crates/embed/src/lib.rt", of_crate);
     assert_eq!(of_crate, header);
 }

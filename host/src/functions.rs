@@ -1,5 +1,5 @@
-//! The nine functions of `include/slotplan.h` over plan bytes by implementation, so that one can take the place of another. All are
-//! called through a pointer, so that none is built into the caller.
+//! The eleven functions of `include/slotplan.h` by implementation, so that one can take the place of another. All are called through a
+//! pointer, so that none is built into the caller.
 
 use crate::library::{self, Answer, NewFlow};
 use crate::{model, plain};
@@ -8,6 +8,8 @@ use crate::{model, plain};
 pub struct Functions {
     pub mark: fn(&[u8]) -> Answer,
     pub schedule: fn(&[u8], &mut [u8]) -> Answer,
+    pub read_schedule: fn(&[u8], &mut [u16], &mut [u16]) -> Answer,
+    pub write_schedule: fn(u8, &[u16], &[u16], &mut [u8]) -> Answer,
     pub admit: fn(&[u8], &mut [u32], NewFlow, &mut [u8]) -> Answer,
     pub release: fn(&[u8], &mut [u32], u8, &mut [u8]) -> Answer,
     pub start: fn(&[u8], &mut [u32]) -> Answer,
@@ -22,6 +24,8 @@ macro_rules! functions_of {
         Functions {
             mark: $implementation::mark,
             schedule: $implementation::schedule,
+            read_schedule: $implementation::read_schedule,
+            write_schedule: $implementation::write_schedule,
             admit: $implementation::admit,
             release: $implementation::release,
             start: $implementation::start,
@@ -86,6 +90,76 @@ mod tests {
                 assert!(answer.is_ok() || out.iter().all(|&byte| byte == 9));
             }
             assert_eq!(counters[44..55], [7, 0, 0, 0, 0, 0, 0, 0, 0, 0, 7]);
+        }
+    }
+
+    /// From one line to the next the first failing check is mended. The lists are 7 and 8 before.
+    #[test]
+    fn checks_of_a_read_schedule_come_in_the_order_of_the_header() {
+        let lines: [(&[u8], [usize; 2], Answer); 13] = [
+            (&[0x01, 2, 1], [62, 64], refuse(1, 0)),
+            (&[0x01, 2, 1], [63, 64], refuse(1, 0)),
+            (&[0x01, 2, 1], [63, 62], refuse(1, 0)),
+            (&[0x01, 2, 1], [63, 63], refuse(3, 0)),
+            (&[0x11, 2, 1], [63, 63], refuse(2, 0)),
+            (&[0x11, 2, 1, 0, 1, 0], [63, 63], refuse(21, 0)),
+            (&[0x11, 1, 1, 0, 1, 0], [63, 63], refuse(22, 0)),
+            (&[0x11, 1, 1, 0, 1, 4], [63, 63], refuse(22, 0)),
+            (&[0x11, 1, 1, 0, 0, 4], [63, 63], refuse(2, 6)),
+            (&[0xFF, 0xFF], [63, 63], refuse(9, 0)),
+            (&[0x11, 1, 1, 0, 0, 4, 0x11, 1], [63, 63], refuse(2, 6)),
+            (&[0x11, 1, 1, 0, 0, 4, 0xFF, 1], [63, 63], refuse(10, 7)),
+            (&[0x11, 1, 1, 0, 0, 4, 0xFF], [63, 63], Ok(1)),
+        ];
+        for functions in ALL {
+            let (mut offsets, mut periods) = ([7; 64], [8; 64]);
+            for (file, lent, expected) in lines {
+                let filled = (&mut offsets[..lent[0]], &mut periods[..lent[1]]);
+                assert_eq!(
+                    (functions.read_schedule)(file, filled.0, filled.1),
+                    expected
+                );
+                assert!(expected.is_ok() || (offsets, periods) == ([7; 64], [8; 64]));
+            }
+            let (mut offsets_read, mut periods_read) = ([0; 64], [0; 64]);
+            (offsets_read[0], offsets_read[63]) = (1, 7);
+            (periods_read[0], periods_read[63]) = (1024, 8);
+            assert_eq!((offsets, periods), (offsets_read, periods_read));
+        }
+    }
+
+    /// From one line to the next the first failing check is mended; the room for the bytes is judged last.
+    #[test]
+    fn checks_of_a_write_schedule_come_in_the_order_of_the_header() {
+        let lists = |first: [u16; 2], other: u16| {
+            let (mut offsets, mut periods) = ([0; 64], [0; 64]);
+            (offsets[0], periods[0], periods[62]) = (first[0], first[1], other);
+            (offsets, periods)
+        };
+        let lines = [
+            (64, lists([1, 1], 5), [62, 64], 0, refuse(1, 0)),
+            (64, lists([1, 1], 5), [63, 62], 0, refuse(1, 0)),
+            (64, lists([1, 1], 5), [63, 63], 0, refuse(14, 0)),
+            (1, lists([1, 1], 5), [63, 63], 0, refuse(14, 0)),
+            (1, lists([1, 1025], 5), [63, 63], 0, refuse(14, 0)),
+            (1, lists([1, 2], 5), [63, 63], 0, refuse(14, 0)),
+            (0, lists([1, 2], 0), [63, 63], 0, refuse(14, 0)),
+            (0, lists([0, 0], 0), [63, 63], 0, refuse(9, 0)),
+            (1, lists([1, 2], 0), [63, 63], 6, refuse(1, 0)),
+            (1, lists([1, 2], 0), [63, 63], 8, Ok(7)),
+        ];
+        for functions in ALL {
+            for (links, (offsets, periods), lent, room, expected) in lines {
+                let mut out = vec![9; room];
+                let (offsets, periods) = (&offsets[..lent[0]], &periods[..lent[1]]);
+                let answer = (functions.write_schedule)(links, offsets, periods, &mut out);
+                assert_eq!(answer, expected);
+                let written: &[u8] = match answer {
+                    Ok(_) => &[0x11, 1, 1, 0, 2, 0, 0xFF, 9],
+                    Err(_) => &[9; 6][..room],
+                };
+                assert_eq!(out, written);
+            }
         }
     }
 

@@ -9,7 +9,7 @@ use std::{fmt, iter};
 /// Cells before each lent list and behind the longest one that is lent, which no call may touch.
 const MARGIN: usize = 16;
 
-/// The most counters, bytes to be filled and numbers of the slot rule that are lent. All are more than any call needs.
+/// The most counters, bytes to be filled, and offsets or periods that are lent. All are more than any call needs.
 pub const MOST_COUNTERS: usize = COUNTERS + 124;
 pub const MOST_ROOM: usize = 800;
 pub const MOST_DEALT: usize = 72;
@@ -19,6 +19,15 @@ pub const MOST_DEALT: usize = 72;
 pub enum Call {
     Mark,
     Schedule {
+        room: usize,
+    },
+    ReadSchedule {
+        file: Vec<u8>,
+        /// How many offsets, and how many periods.
+        lent: [usize; 2],
+    },
+    WriteSchedule {
+        schedule: HandedSchedule,
         room: usize,
     },
     Admit {
@@ -58,6 +67,8 @@ impl Call {
         match self {
             Call::Mark => "mark",
             Call::Schedule { .. } => "schedule",
+            Call::ReadSchedule { .. } => "read_schedule",
+            Call::WriteSchedule { .. } => "write_schedule",
             Call::Admit { .. } => "admit",
             Call::Release { .. } => "release",
             Call::Start { .. } => "start",
@@ -76,6 +87,11 @@ impl fmt::Display for Call {
         match self {
             Call::Mark => Ok(()),
             Call::Schedule { room } => write!(form, " room {room}"),
+            Call::ReadSchedule { file, lent } => {
+                let (file, [offsets, periods]) = (hex(file), lent);
+                write!(form, "{file}, offsets {offsets} periods {periods}")
+            }
+            Call::WriteSchedule { schedule, room } => write!(form, " {schedule}, room {room}"),
             Call::Admit { lent, flow, room } => {
                 let (number, entry, rate) = (flow.number, flow.entry, flow.rate);
                 write!(form, " number {number:02X} entry {entry:02X}")?;
@@ -91,7 +107,7 @@ impl fmt::Display for Call {
                 arrivals,
                 number,
             } => {
-                let list = shown_list(arrivals.iter().map(|&count| u32::from(count)), 4);
+                let list = shown_words(arrivals);
                 write!(form, " {number:08X}, counters {lent} arrivals {list}")
             }
             Call::Sender { parent, slot } => write!(form, " parent {parent:02X} slot {slot:08X}"),
@@ -114,6 +130,29 @@ fn shown_list(list: impl ExactSizeIterator<Item = u32>, digits: usize) -> String
     let others = list.enumerate().filter(|&(_, value)| value != 0);
     let others = others.map(|(index, value)| format!(" {index}={value:0digits$X}"));
     length + &others.collect::<String>()
+}
+
+fn shown_words(list: &[u16]) -> String {
+    shown_list(list.iter().map(|&value| u32::from(value)), 4)
+}
+
+/// A schedule as a host hands it in, with lists of any length.
+#[derive(Clone, Debug, PartialEq, Eq)]
+pub struct HandedSchedule {
+    pub links: u8,
+    pub offsets: Vec<u16>,
+    pub periods: Vec<u16>,
+}
+
+impl fmt::Display for HandedSchedule {
+    fn fmt(&self, form: &mut fmt::Formatter) -> fmt::Result {
+        let [offsets, periods] = [&self.offsets, &self.periods].map(|list| shown_words(list));
+        let links = self.links;
+        write!(
+            form,
+            "links {links:02X}, offsets {offsets}, periods {periods}"
+        )
+    }
 }
 
 /// A call, and what the host does just before it.
@@ -189,6 +228,13 @@ fn sentinels<T: From<u8>>(most: usize) -> Vec<T> {
     cells.map(|index| T::from(sentinel(index))).collect()
 }
 
+/// A list of a schedule that is handed in, with sentinels beside it.
+fn among_sentinels(list: &[u16]) -> Vec<u16> {
+    let mut cells = sentinels(MOST_DEALT);
+    cells[MARGIN..][..list.len()].copy_from_slice(list);
+    cells
+}
+
 impl Memory {
     pub fn of(plan: &[u8]) -> Memory {
         let mut memory = Memory {
@@ -213,9 +259,16 @@ impl Memory {
     /// The buffers to be filled hold nothing of earlier calls.
     fn prepare(&mut self, step: &Step) {
         self.out = sentinels(MOST_ROOM);
-        if let Call::Deal { .. } = step.call {
-            self.offsets = sentinels(MOST_DEALT);
-            self.periods = sentinels(MOST_DEALT);
+        match &step.call {
+            Call::Deal { .. } | Call::ReadSchedule { .. } => {
+                self.offsets = sentinels(MOST_DEALT);
+                self.periods = sentinels(MOST_DEALT);
+            }
+            Call::WriteSchedule { schedule, .. } => {
+                self.offsets = among_sentinels(&schedule.offsets);
+                self.periods = among_sentinels(&schedule.periods);
+            }
+            _ => (),
         }
         if let Some(counters) = &step.counters {
             self.counters_mut().copy_from_slice(counters);
@@ -250,9 +303,18 @@ impl Memory {
 
     fn call(&mut self, functions: &Functions, plan: &[u8], call: &Call) -> Answer {
         let (counters, out) = (&mut self.counters[MARGIN..], &mut self.out[MARGIN..]);
+        let (dealt, served) = (&mut self.offsets[MARGIN..], &mut self.periods[MARGIN..]);
         match call {
             Call::Mark => (functions.mark)(plan),
             Call::Schedule { room } => (functions.schedule)(plan, &mut out[..*room]),
+            Call::ReadSchedule { file, lent } => {
+                (functions.read_schedule)(file, &mut dealt[..lent[0]], &mut served[..lent[1]])
+            }
+            Call::WriteSchedule { schedule, room } => {
+                let offsets = &dealt[..schedule.offsets.len()];
+                let periods = &served[..schedule.periods.len()];
+                (functions.write_schedule)(schedule.links, offsets, periods, &mut out[..*room])
+            }
             Call::Admit { lent, flow, room } => {
                 (functions.admit)(plan, &mut counters[..*lent], *flow, &mut out[..*room])
             }
@@ -271,10 +333,7 @@ impl Memory {
                 gaps,
                 offsets,
                 periods,
-            } => {
-                let dealt = &mut self.offsets[MARGIN..][..*offsets];
-                (functions.deal)(gaps, dealt, &mut self.periods[MARGIN..][..*periods])
-            }
+            } => (functions.deal)(gaps, &mut dealt[..*offsets], &mut served[..*periods]),
         }
     }
 

@@ -10,6 +10,23 @@ pub mod declared {
     extern "C" {
         pub fn slotplan_mark(plan: *const u8, length: usize) -> u64;
         pub fn slotplan_schedule(plan: *const u8, length: usize, out: *mut u8, room: usize) -> u64;
+        pub fn slotplan_read_schedule(
+            file: *const u8,
+            length: usize,
+            offsets: *mut u16,
+            offset_count: usize,
+            periods: *mut u16,
+            period_count: usize,
+        ) -> u64;
+        pub fn slotplan_write_schedule(
+            links: u8,
+            offsets: *const u16,
+            offset_count: usize,
+            periods: *const u16,
+            period_count: usize,
+            out: *mut u8,
+            room: usize,
+        ) -> u64;
         pub fn slotplan_admit(
             plan: *const u8,
             length: usize,
@@ -81,6 +98,34 @@ pub fn mark(plan: &[u8]) -> Answer {
 pub fn schedule(plan: &[u8], out: &mut [u8]) -> Answer {
     told(unsafe {
         declared::slotplan_schedule(plan.as_ptr(), plan.len(), out.as_mut_ptr(), out.len())
+    })
+}
+
+/// The links.
+pub fn read_schedule(file: &[u8], offsets: &mut [u16], periods: &mut [u16]) -> Answer {
+    told(unsafe {
+        declared::slotplan_read_schedule(
+            file.as_ptr(),
+            file.len(),
+            offsets.as_mut_ptr(),
+            offsets.len(),
+            periods.as_mut_ptr(),
+            periods.len(),
+        )
+    })
+}
+
+pub fn write_schedule(links: u8, offsets: &[u16], periods: &[u16], out: &mut [u8]) -> Answer {
+    told(unsafe {
+        declared::slotplan_write_schedule(
+            links,
+            offsets.as_ptr(),
+            offsets.len(),
+            periods.as_ptr(),
+            periods.len(),
+            out.as_mut_ptr(),
+            out.len(),
+        )
     })
 }
 

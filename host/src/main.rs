@@ -26,11 +26,14 @@ mod random_calls;
 mod random_gaps;
 mod random_hosts;
 mod random_plans;
+mod random_schedules;
 mod random_sessions;
 mod random_sites;
 mod rehearsal;
 mod rehearse_lines;
 mod rules;
+mod schedule_lines;
+mod schedules;
 mod shrink;
 mod slots;
 #[cfg(test)]

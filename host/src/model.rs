@@ -1,9 +1,10 @@
-//! The nine functions of `include/slotplan.h` over plan bytes, made of this implementation. The order of the checks is the header's.
+//! The eleven functions of `include/slotplan.h`, made of this implementation. The order of the checks is the header's.
 
-use crate::bytes::{read_plan, write_plan, write_schedule};
+use crate::bytes::{self, read_plan, write_plan};
 use crate::calls::{self, admission, COUNTERS};
 use crate::library::{Answer, NewFlow};
-use crate::rules::{refuse, slot_rule, Flow, Refusal, Site, FLOW_NUMBERS};
+use crate::rules::{refuse, slot_rule, Flow, Refusal, Site, FLOW_NUMBERS, MOST_LINKS};
+use crate::schedules::{self, write_schedule_of, Schedule};
 use crate::slots;
 
 /// The links, and from bit 8 on the flows.
@@ -14,7 +15,34 @@ pub fn mark(plan: &[u8]) -> Answer {
 
 pub fn schedule(plan: &[u8], out: &mut [u8]) -> Answer {
     let site = read_plan(plan)?;
-    write_schedule(&site, out).map(|length| length as u64)
+    bytes::write_schedule(&site, out).map(|length| length as u64)
+}
+
+/// The header: 1 for the lists of a schedule comes before all other checks.
+fn check_lists(offsets: &[u16], periods: &[u16]) -> Result<(), Refusal> {
+    if offsets.len() != MOST_LINKS || periods.len() != MOST_LINKS {
+        return refuse(1, 0);
+    }
+    Ok(())
+}
+
+/// The links.
+pub fn read_schedule(file: &[u8], offsets: &mut [u16], periods: &mut [u16]) -> Answer {
+    check_lists(offsets, periods)?;
+    let schedule = schedules::read_schedule(file)?;
+    narrowed(&schedule.offsets, offsets);
+    narrowed(&schedule.periods, periods);
+    Ok(schedule.links)
+}
+
+pub fn write_schedule(links: u8, offsets: &[u16], periods: &[u16], out: &mut [u8]) -> Answer {
+    check_lists(offsets, periods)?;
+    let schedule = Schedule {
+        links: u64::from(links),
+        offsets: widened(offsets),
+        periods: widened(periods),
+    };
+    write_schedule_of(&schedule, out).map(|length| length as u64)
 }
 
 /// No bytes read to the empty site, so 14 judges here whether the bytes are accepted, and nothing else.
@@ -99,7 +127,7 @@ fn widened(list: &[u16]) -> Vec<u64> {
     list.iter().map(|&value| u64::from(value)).collect()
 }
 
-/// The value of a slot rule's list is at most 1,024.
+/// The offsets and periods of the slot rule and of a schedule that was read are at most 1,024.
 fn narrowed(list: &[u64], into: &mut [u16]) {
     for (place, &value) in into.iter_mut().zip(list) {
         *place = value as u16;

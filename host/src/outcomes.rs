@@ -44,6 +44,30 @@ pub const CALLS: &[Call] = &[
     call(["S", "slot "], ACCEPTED, &[1, 14, 19, 20]),
 ];
 
+/// The lines of test_schedules: a schedule file, or a changed schedule that is written into at most 64 bytes.
+pub const SCHEDULES: &[Call] = &[
+    call(["", ""], ACCEPTED, &[2, 3, 21, 22, 9, 10]),
+    call(
+        ["W", ""],
+        &[
+            "schedule 7",
+            "schedule 13",
+            "schedule 19",
+            "schedule 25",
+            "schedule 31",
+            "schedule 37",
+            "schedule 43",
+            "schedule 49",
+            "schedule 55",
+            "schedule 61",
+            "schedule refused 14 0",
+            "schedule refused 9 0",
+            "schedule refused 1 0",
+        ],
+        &[],
+    ),
+];
+
 /// The calls of rehearse. Its site passes check 14, and it lends lists of the right lengths.
 pub const SESSIONS: &[Call] = &[
     call(["start", "start "], ACCEPTED, &[]),
@@ -71,6 +95,12 @@ pub const FUNCTIONS: &[Call] = &[
         ACCEPTED,
         &[2, 3, 4, 5, 6, 7, 8, 9, 10, 11, 12, 13, 1],
     ),
+    call(
+        ["read_schedule", "read_schedule "],
+        ACCEPTED,
+        &[1, 2, 3, 21, 22, 9, 10],
+    ),
+    call(["write_schedule", "write_schedule "], ACCEPTED, &[1, 14, 9]),
     call(["admit", "admit "], ACCEPTED, &[1, 14, 5, 6, 15, 17, 18]),
     call(["release", "release "], ACCEPTED, &[1, 14, 5, 16]),
     call(["start", "start "], ACCEPTED, &[1, 14]),

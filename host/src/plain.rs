@@ -2,13 +2,15 @@
 //! into fixed arrays and judged once, then the call runs on these arrays and writes the new bytes straight into the lent buffer.
 
 mod rule;
+mod schedule;
 mod site;
 mod slot;
 
-use crate::bytes::{COMMAND_LENGTH, END, FLOW, LINK};
+use crate::bytes::{COMMAND_LENGTH, END, FLOW};
 use crate::calls::{CELLS, COUNTERS};
 use crate::library::{Answer, NewFlow};
 use crate::rules::{refuse, Refusal, FLOW_NUMBERS, MOST_LINKS};
+use schedule::{is_sound, link_command, FixedSchedule};
 use site::FixedSite;
 use slot::Counters;
 
@@ -25,10 +27,44 @@ pub fn schedule(plan: &[u8], out: &mut [u8]) -> Answer {
         return refuse(1, 0);
     };
     for (command, link) in out.chunks_exact_mut(COMMAND_LENGTH).zip(1..) {
-        let offset = site.offsets[link].to_le_bytes();
-        let period = site.periods[link].to_le_bytes();
-        let bytes = [LINK, link as u8, offset[0], offset[1], period[0], period[1]];
+        let bytes = link_command(link as u8, site.offsets[link], site.periods[link]);
         command.copy_from_slice(&bytes);
+    }
+    out[length - 1] = END;
+    Ok(length as u64)
+}
+
+/// The links.
+pub fn read_schedule(file: &[u8], offsets: &mut [u16], periods: &mut [u16]) -> Answer {
+    if offsets.len() != MOST_LINKS || periods.len() != MOST_LINKS {
+        return refuse(1, 0);
+    }
+    let schedule = FixedSchedule::read(file)?;
+    offsets.copy_from_slice(&schedule.offsets);
+    periods.copy_from_slice(&schedule.periods);
+    Ok(schedule.links as u64)
+}
+
+/// 1 for the lists, 14, 9, 1 for the buffer.
+pub fn write_schedule(links: u8, offsets: &[u16], periods: &[u16], out: &mut [u8]) -> Answer {
+    if offsets.len() != MOST_LINKS || periods.len() != MOST_LINKS {
+        return refuse(1, 0);
+    }
+    let links = usize::from(links);
+    if !is_sound(links, offsets, periods) {
+        return refuse(14, 0);
+    }
+    if links == 0 {
+        return refuse(9, 0);
+    }
+    let length = links * COMMAND_LENGTH + 1;
+    let Some(out) = out.get_mut(..length) else {
+        return refuse(1, 0);
+    };
+    let turns = offsets.iter().zip(periods);
+    let commands = out.chunks_exact_mut(COMMAND_LENGTH).zip(1..);
+    for ((command, link), (&offset, &period)) in commands.zip(turns) {
+        command.copy_from_slice(&link_command(link, offset, period));
     }
     out[length - 1] = END;
     Ok(length as u64)

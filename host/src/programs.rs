@@ -3,6 +3,8 @@
 use crate::bytes::{passes_check_14, read_plan, write_plan, write_schedule, written};
 use crate::call_lines::Desk;
 use crate::rules::{slot_rule, Refusal, Site};
+use crate::schedule_lines::{readschedule, schedules_line};
+use crate::schedules::Schedule;
 
 /// The programs with a stored input and output, in crates of these names.
 pub const PROGRAMS: &[&str] = &[
@@ -14,6 +16,8 @@ pub const PROGRAMS: &[&str] = &[
     "test_altered",
     "test_deals",
     "test_calls",
+    "readschedule",
+    "test_schedules",
     REHEARSE,
 ];
 
@@ -34,6 +38,7 @@ pub struct Answered {
 pub fn output(program: &str, input: &[u8]) -> Result<String, String> {
     match program {
         "slotplan" | "test_figures" | "test_bounds" | "test_overlong" => Ok(slotplan(input)),
+        "readschedule" => Ok(readschedule(input)),
         _ => Ok(printed(&answered_lines(program, input)?)),
     }
 }
@@ -45,11 +50,13 @@ pub fn printed(lines: &[Answered]) -> String {
 /// For the programs that read lines.
 pub fn answered_lines(program: &str, input: &[u8]) -> Result<Vec<Answered>, String> {
     let (mut site, mut desk) = (Site::empty(), Desk::new());
+    let mut schedule = Schedule::empty();
     match program {
         "test_vectors" => each_line(input, vectors_line),
         "test_altered" => each_line(input, |line| altered_line(&mut site, line)),
         "test_deals" => each_line(input, deals_line),
         "test_calls" => each_line(input, |line| desk.line(line)),
+        "test_schedules" => each_line(input, |line| schedules_line(&mut schedule, line)),
         _ => Err(format!("no program {program}")),
     }
 }
@@ -107,7 +114,7 @@ pub fn verdict(answer: Result<(), Refusal>) -> String {
     answer.map_or_else(refused, |()| "accepted".to_string())
 }
 
-fn length_or_refusal(answer: Result<usize, Refusal>) -> String {
+pub fn length_or_refusal(answer: Result<usize, Refusal>) -> String {
     answer.map_or_else(refused, |length| length.to_string())
 }
 
@@ -117,7 +124,7 @@ pub fn hex(bytes: &[u8]) -> String {
 }
 
 /// Characters between the digits are passed over.
-fn bytes_of_hex(text: &str) -> Result<Vec<u8>, String> {
+pub fn bytes_of_hex(text: &str) -> Result<Vec<u8>, String> {
     let digits: Vec<u32> = text.chars().filter_map(|sign| sign.to_digit(16)).collect();
     if digits.len() % 2 == 1 || text.contains(|sign: char| sign.is_ascii_lowercase()) {
         return Err("not pairs of upper-case hexadecimal digits".to_string());
@@ -126,7 +133,7 @@ fn bytes_of_hex(text: &str) -> Result<Vec<u8>, String> {
     Ok(pairs.map(|pair| (pair[0] * 16 + pair[1]) as u8).collect())
 }
 
-fn at_most(count: usize, most: usize, what: &str) -> Result<usize, String> {
+pub fn at_most(count: usize, most: usize, what: &str) -> Result<usize, String> {
     if count > most {
         return Err(format!("more than {most} {what}"));
     }

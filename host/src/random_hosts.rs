@@ -3,13 +3,18 @@
 use crate::bytes::{read_plan, COMMAND_LENGTH};
 use crate::calls::COUNTERS;
 use crate::damage::{damage_bytes, random_plan};
-use crate::host_calls::{Call, List, Memory, Step, MOST_COUNTERS, MOST_DEALT, MOST_ROOM};
+use crate::host_calls::{
+    Call, HandedSchedule, List, Memory, Step, MOST_COUNTERS, MOST_DEALT, MOST_ROOM,
+};
 use crate::library::NewFlow;
 use crate::random::Random;
 use crate::random_calls::{self, arrivals_within_rates, random_call, random_counters};
 use crate::random_gaps::gap_list;
+use crate::random_schedules::{random_changes, random_schedule, schedule_file};
 use crate::random_sites::site_to_alter;
-use crate::rules::{Flow, Site};
+use crate::rules::{Flow, Site, MOST_LINKS};
+use crate::schedule_lines::change;
+use crate::schedules::{read_schedule, Schedule};
 
 /// The most numbers of a list that is longer than it must be.
 const MOST_ARRIVALS: usize = 130;
@@ -54,9 +59,60 @@ pub fn dealt_list(random: &mut Random) -> List {
     }
 }
 
+/// A schedule file, often damaged, that is read, and what it reads to, often changed, that is written.
+pub fn schedule_list(random: &mut Random) -> List {
+    let file = schedule_file(random);
+    let schedule = match read_schedule(&file) {
+        Err(_) if random.chance(60) => random_schedule(random),
+        read => read.unwrap_or(Schedule::empty()),
+    };
+    let lent = [list_length(random), list_length(random)];
+    let mut calls = vec![Call::ReadSchedule { file, lent }];
+    for _ in 0..random.between(1, 2) {
+        calls.push(Call::WriteSchedule {
+            schedule: handed_schedule(random, &schedule),
+            room: random_room(random, link_bytes(schedule.links)),
+        });
+    }
+    List {
+        plan: Vec::new(),
+        steps: calls.into_iter().map(Step::of).collect(),
+    }
+}
+
+/// The schedule, often changed, in lists that now and then have a wrong length.
+fn handed_schedule(random: &mut Random, schedule: &Schedule) -> HandedSchedule {
+    let mut changed = schedule.clone();
+    change(&mut changed, &random_changes(random, schedule).concat());
+    let mut list_of = |entries: &[u64]| {
+        let mut list: Vec<u16> = entries.iter().map(|&entry| entry as u16).collect();
+        list.resize(list_length(random), 0);
+        list
+    };
+    HandedSchedule {
+        links: changed.links as u8,
+        offsets: list_of(&changed.offsets),
+        periods: list_of(&changed.periods),
+    }
+}
+
+/// Of the offsets or the periods of a schedule: mostly 63, else near it or any.
+fn list_length(random: &mut Random) -> usize {
+    match random.between(0, 59) {
+        0 => MOST_LINKS - 1,
+        1 => MOST_LINKS + 1,
+        2 => random.index(MOST_DEALT + 1),
+        _ => MOST_LINKS,
+    }
+}
+
 /// A command for each link, and END.
+fn link_bytes(links: u64) -> usize {
+    COMMAND_LENGTH * links as usize + 1
+}
+
 fn schedule_length(site: &Site) -> usize {
-    COMMAND_LENGTH * site.links as usize + 1
+    link_bytes(site.links)
 }
 
 /// A command for each link and flow, and END.

@@ -1,8 +1,13 @@
 //! A list of calls that differs, made smaller as long as it still differs.
 
+mod schedules;
+
 use crate::bytes::{COMMAND_LENGTH, FLOW, NODE};
 use crate::calls::CELLS;
 use crate::host_calls::{Call, List};
+
+/// Without a node other links send in a slot. Of a small site one of these numbers shows what a large one shows.
+const SLOTS: u32 = 64;
 
 /// A list on which the two implementations differ, with what tells it.
 struct Shrinking<'a> {
@@ -22,6 +27,7 @@ pub fn shrink(list: List, differs: &dyn Fn(&List) -> bool) -> List {
         shrinking.clear_counters();
         shrinking.clear_arrivals();
         shrinking.drop_gaps();
+        shrinking.shrink_schedules();
         if shrinking.list == before {
             return before;
         }
@@ -74,13 +80,19 @@ impl Shrinking<'_> {
             |call| set_room(call, |_| 0),
             |call| set_room(call, |room| room / 2),
             |call| set_room(call, |room| room.saturating_sub(1)),
-            lower_numbers,
+            lower_deadline,
         ];
         for index in 0..self.list.steps.len() {
             for lower in lower {
                 self.attempt_with(|list| lower(&mut list.steps[index].call));
             }
+            self.attempt_with_slots(|list, slot| lower_slot(&mut list.steps[index].call, slot));
         }
+    }
+
+    /// Tries small numbers of slots until one is taken.
+    fn attempt_with_slots(&mut self, change: impl Fn(&mut List, u32)) {
+        (0..SLOTS).any(|slot| self.attempt_with(|list| change(list, slot)));
     }
 
     fn drop_commands(&mut self) {
@@ -90,14 +102,21 @@ impl Shrinking<'_> {
         }
     }
 
-    /// All commands of a plan at once, then each; a NODE with the numbers of nodes as they stand, or with those above it one
-    /// smaller.
+    /// All commands of a plan at once, then each; a FLOW with its widths, a NODE with the numbers of nodes as they stand, or with
+    /// those above it one smaller.
     fn drop_commands_of(&mut self, of: Option<usize>) {
         let length = plan_of(&mut self.list, of).map_or(0, |plan| plan.len());
         self.attempt_with(|list| plan_of(list, of).into_iter().for_each(Vec::clear));
         for at in (0..length).step_by(COMMAND_LENGTH).rev() {
-            if !self.attempt_with(|list| drop_command(list, of, at)) {
-                self.attempt_with(|list| drop_node(list, of, at));
+            let dropped = self.attempt_with(|list| drop_command(list, of, at))
+                || self.attempt_with(|list| drop_flow(list, of, at))
+                || self.attempt_with(|list| drop_node(list, of, at));
+            if !dropped {
+                self.attempt_with_slots(|list, slot| {
+                    drop_node(list, of, at);
+                    let calls = list.steps.iter_mut().map(|step| &mut step.call);
+                    calls.for_each(|call| lower_slot(call, slot));
+                });
             }
         }
     }
@@ -133,14 +152,16 @@ impl Shrinking<'_> {
         }
     }
 
-    /// A gap goes with its offset and its period.
+    /// A gap goes with its offset and its period. One that has to stay becomes 1 if it can.
     fn drop_gaps(&mut self) {
         for index in 0..self.list.steps.len() {
             let Call::Deal { gaps, .. } = &self.list.steps[index].call else {
                 continue;
             };
             for child in (0..gaps.len()).rev() {
-                self.attempt_with(|list| drop_gap(&mut list.steps[index].call, child));
+                if !self.attempt_with(|list| drop_gap(&mut list.steps[index].call, child)) {
+                    self.attempt_with(|list| lower_gap(&mut list.steps[index].call, child));
+                }
             }
         }
     }
@@ -159,20 +180,35 @@ fn drop_gap(call: &mut Call, child: usize) {
     }
 }
 
+fn lower_gap(call: &mut Call, child: usize) {
+    if let Call::Deal { gaps, .. } = call {
+        gaps[child] = gaps[child].min(1);
+    }
+}
+
 fn set_room(call: &mut Call, change: impl Fn(usize) -> usize) {
     match call {
-        Call::Schedule { room } | Call::Admit { room, .. } | Call::Release { room, .. } => {
+        Call::Schedule { room }
+        | Call::WriteSchedule { room, .. }
+        | Call::Admit { room, .. }
+        | Call::Release { room, .. } => {
             *room = change(*room);
         }
         _ => (),
     }
 }
 
-fn lower_numbers(call: &mut Call) {
+fn lower_deadline(call: &mut Call) {
+    if let Call::Admit { flow, .. } = call {
+        flow.deadline = flow.deadline.min(1);
+    }
+}
+
+/// A number that is smaller already stays.
+fn lower_slot(call: &mut Call, lowest: u32) {
     match call {
-        Call::Admit { flow, .. } => flow.deadline = flow.deadline.min(1),
-        Call::Slot { number, .. } => *number = 0,
-        Call::Sender { slot, .. } => *slot = 0,
+        Call::Slot { number, .. } => *number = lowest.min(*number),
+        Call::Sender { slot, .. } => *slot = lowest.min(*slot),
         _ => (),
     }
 }
@@ -196,6 +232,31 @@ fn drop_command(list: &mut List, of: Option<usize>, at: usize) {
         let end = (at + COMMAND_LENGTH).min(plan.len());
         plan.drain(at.min(end)..end);
     }
+}
+
+fn drop_flow(list: &mut List, of: Option<usize>, at: usize) {
+    if let Some(plan) = plan_of(list, of) {
+        without_flow(plan, at);
+    }
+}
+
+/// Each link of the route loses the flow's width, so that as much is left for others. None: there is no FLOW with a route.
+fn without_flow(plan: &mut Vec<u8>, at: usize) -> Option<()> {
+    let &[FLOW, _, entry, rate, ..] = plan.get(at..at + COMMAND_LENGTH)? else {
+        return None;
+    };
+    plan.drain(at..at + COMMAND_LENGTH);
+    let mut node = usize::from(entry);
+    while node > 0 {
+        let command = plan.chunks_exact_mut(COMMAND_LENGTH).nth(node - 1)?;
+        let capacity = u16::from_le_bytes([command[2], command[3]]);
+        let gap = u16::from_le_bytes([command[4], command[5]]);
+        let left = capacity.saturating_sub(gap.saturating_mul(rate.into()));
+        command[2..4].copy_from_slice(&left.max(1).to_le_bytes());
+        let parent = usize::from(command[1]);
+        node = Some(parent).filter(|&parent| parent < node)?;
+    }
+    Some(())
 }
 
 /// In the calls that go with the plan, nodes are renumbered too.
@@ -336,6 +397,19 @@ mod tests {
         let mut flow = flow_command(3, 1, 1, 9);
         assert!(without_node(&mut flow, 0).is_none());
         assert_eq!(flow, flow_command(3, 1, 1, 9));
+    }
+
+    /// Of 20 packets on link 1 the flow has 3 times 5, of 9 on link 2 all.
+    #[test]
+    fn a_dropped_flow_leaves_what_was_left() {
+        let nodes = |first, second| [node_command(0, first, 5), node_command(1, second, 3)];
+        let flows = [flow_command(2, 1, 1, 9), flow_command(3, 2, 3, 9)];
+        let mut plan = [nodes(20, 9), flows.clone()].concat().concat();
+        assert_eq!(without_flow(&mut plan, 3 * COMMAND_LENGTH), Some(()));
+        let expected = [&nodes(5, 1)[..], &flows[..1]].concat().concat();
+        assert_eq!(plan, expected);
+        assert_eq!(without_flow(&mut plan, 0), None);
+        assert_eq!(plan, expected);
     }
 
     /// The bytes handed in once are enough.

@@ -11,6 +11,8 @@ use std::hint::black_box;
 pub enum Row {
     Mark,
     Schedule,
+    ReadSchedule,
+    WriteSchedule,
     Admit,
     Release,
     Start,
@@ -36,9 +38,11 @@ impl Row {
 pub const REHEARSAL: Row = Row::Rehearsal(100_000);
 
 /// The rows that take a site.
-pub const OF_SITES: [(&str, Row); 9] = [
+pub const OF_SITES: [(&str, Row); 11] = [
     ("mark", Row::Mark),
     ("schedule", Row::Schedule),
+    ("read_schedule", Row::ReadSchedule),
+    ("write_schedule", Row::WriteSchedule),
     ("admit", Row::Admit),
     ("release", Row::Release),
     ("start", Row::Start),
@@ -125,6 +129,8 @@ impl Bench<'_> {
         match row {
             Row::Mark => repeat(count, || (functions.mark)(plan())),
             Row::Schedule => repeat(count, || (functions.schedule)(plan(), out)),
+            Row::ReadSchedule => self.reads(count),
+            Row::WriteSchedule => self.writes(count),
             Row::Admit => {
                 let plan = &self.case.without_last;
                 repeat(count, || {
@@ -143,6 +149,25 @@ impl Bench<'_> {
             Row::Full => self.deals(&full_gaps(), count),
             Row::Crowded => self.deals(&CROWDED_GAPS, count),
         }
+    }
+
+    fn reads(&mut self, count: u32) -> Answer {
+        let (case, read_schedule) = (self.case, self.functions.read_schedule);
+        let Buffers {
+            offsets, periods, ..
+        } = &mut *self.buffers;
+        repeat(count, || {
+            read_schedule(black_box(&case.schedule), offsets, periods)
+        })
+    }
+
+    fn writes(&mut self, count: u32) -> Answer {
+        let (case, write_schedule) = (self.case, self.functions.write_schedule);
+        let out = &mut self.buffers.out;
+        repeat(count, || {
+            let [offsets, periods] = black_box(&case.lists);
+            write_schedule(black_box(case.links), offsets, periods, out)
+        })
     }
 
     /// Slots with rising numbers, in each of which every flow's rate arrives.

@@ -1,8 +1,10 @@
 //! The sites that are measured.
 
-use crate::bytes::{flow_command, node_command, plan_p, read_plan, COMMAND_LENGTH, END};
+use crate::bytes::{
+    flow_command, node_command, plan_p, read_plan, write_schedule, written, COMMAND_LENGTH, END,
+};
 use crate::library::NewFlow;
-use crate::rules::FLOW_NUMBERS;
+use crate::rules::{FLOW_NUMBERS, MOST_LINKS};
 use std::array::from_fn;
 
 /// A plan with what the calls on it need.
@@ -13,6 +15,11 @@ pub struct Case {
     pub last: NewFlow,
     /// For each flow its rate.
     pub arrivals: [u16; FLOW_NUMBERS],
+    /// The schedule file.
+    pub schedule: Vec<u8>,
+    pub links: u8,
+    /// The offsets and periods that the file reads to.
+    pub lists: [[u16; MOST_LINKS]; 2],
 }
 
 impl Case {
@@ -35,6 +42,9 @@ impl Case {
                 deadline: site.deadlines[number] as u16,
             },
             arrivals: from_fn(|flow| site.rates[flow] as u16),
+            schedule: written(&site, write_schedule).expect("the site has links"),
+            links: site.links as u8,
+            lists: [&site.offsets, &site.periods].map(|list| from_fn(|link| list[link] as u16)),
         }
     }
 }
