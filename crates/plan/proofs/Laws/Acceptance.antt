@@ -1,30 +1,23 @@
 -- A reading in its two steps: the form of the bytes, and then the judgement of what they say.
-use Prim.Native.Nat.{ℕ, suc, _+_, _≤_, _<_}
-use mathlib.Core.Path.{_≡_, refl, sym, _∙_, ap}
-use mathlib.Core.Bool.{Bool, true, false, cond}
-use mathlib.Core.List.{List, [], _∷_, _++_}
+use Prim.Native.Nat.{ℕ, _+_, _≤_}
+use mathlib.Core.Path.{_≡_, refl, _∙_, ap}
+use mathlib.Core.List.{List, [], _∷_}
 use mathlib.Core.Logic.{_↔_}
-use lib.Dec.{eqb, ltb, leb}
-use lib.ListN.{length, getD, drop, length-append, drop-of-length-le}
-use lib.Seq.{drop-cons, take-at, getD-append-seam}
-use borrow.Author.Tests.{le-ltb, ne-eqb, eqb-true, eqb-false, ltb-true, ltb-false}
+use lib.ListN.{length, length-append}
+use lib.Seq.{take-at, getD-append-seam}
 use native.Mathlib.Omega.{arith}
 use Rattle.pinwheel.specs.Outcome.{Outcome, accepted, refused}
 use Rattle.pinwheel.proofs.Laws.Outcomes.{refused-not}
 use Rattle.site.specs.declared.Site.{Site}
 use Rattle.site.specs.Sites.{live, withSchedule}
-use Rattle.site.specs.Tree.{depthOf}
 use Rattle.schedule.specs.Schedule.{scheduled}
 use Rattle.schedule.specs.Judge.{judgeOf}
 use Rattle.schedule.proofs.Laws.{judge-gives, judge-numbers}
 use Rattle.schedule.proofs.Laws.Judge.{judge-bare}
-use Rattle.limits.specs.Limits.{badNode, badFlow, misplaced, nodeLimits, flowLimits}
 use Rattle.limits.specs.Words.{Formed}
-use Rattle.format.specs.Commands.{sizeOf}
 use Rattle.format.specs.Words.{Bytes}
-use Rattle.reader.specs.Read.{Draft, nodeAt, flowAt, nodeFault, flowFault, laterFault, plans, fault, endOf, decode, judgeForm, readOf}
-use Rattle.format.specs.Reading.{faultOf}
-use Rattle.format.proofs.Laws.Reading.{read-out, read-end, read-stop, Stop, out, end, fails, EndWay, bare, more, last, end-way, ended-last}
+use Rattle.reader.specs.Read.{plans, decode, judgeForm, readOf}
+use Rattle.format.proofs.Laws.Reading.{read-end, ended-last}
 use Rattle.writer.specs.Write.{nodeBytes, flowBytes, flowIfLive, commandBytes, planBytes}
 use Rattle.plan.specs.Words.{InForm}
 use Rattle.plan.proofs.Laws.FromSites.{zeros, begun-read}

@@ -2,10 +2,10 @@
 use Prim.Native.Nat.{ℕ, zero, suc, _+_, _<_, _≤_}
 use mathlib.Core.Path.{_≡_, refl, sym, _∙_, ap}
 use mathlib.Core.List.{List, [], _∷_, _++_, append-assoc}
-use mathlib.Core.Logic.{_↔_, inl, inr, ⊎-elim}
+use mathlib.Core.Logic.{_↔_}
 use lib.ListN.{length, getD, take, drop, length-append, length-drop, length-set, take-append-drop}
-use lib.Seq.{drop-at, take-at, getD-append-seam, getD-set-same, getD-set-other}
-use borrow.Author.Tests.{eqb-true, eqb-false, eq-eqb, lt-ltb, ltb-true}
+use lib.Seq.{take-at, getD-append-seam, getD-set-same, getD-set-other}
+use borrow.Author.Tests.{eqb-true, eq-eqb, lt-ltb, ltb-true}
 use native.Mathlib.Decide.{ℕ-discrete}
 use native.Mathlib.Omega.{arith}
 use Rattle.pinwheel.specs.Outcome.{accepted, refused}
@@ -22,8 +22,8 @@ use Rattle.format.proofs.Laws.Reading.{readOn, read-go, read-end, Stop, fault-p
 use Rattle.format.proofs.Laws.Reading as way
 use Rattle.schedule_file.specs.declared.Link.{Link}
 use Rattle.schedule_file.specs.declared.Schedule.{Schedule}
-use Rattle.schedule_file.specs.Read.{withoutLinks, linkAt, outOfOrder, badSlots, linkFault, linkAdded, schedules, fault, scheduleRead}
-use Rattle.schedule_file.specs.Words.{SlotsWithin, NoLink, Listed}
+use Rattle.schedule_file.specs.Read.{withoutLinks, linkAt, linkFault, linkAdded, schedules, fault, scheduleRead}
+use Rattle.schedule_file.specs.Words.{Listed}
 use Rattle.schedule_file.proofs.Laws.Commands.{order-when, order-fails, slots-when, link-passed}
 use Rattle.schedule_file.proofs.Laws.Readings.{schedule-start}
 use Rattle.writer.specs.Write.{linkBytes, scheduleBytes}
@@ -34,7 +34,7 @@ use Rattle.plan.specs.ScheduleWords.{ScheduleInForm, ScheduleBegun, link
 use Rattle.plan.proofs.Laws.Lists.{upto, upto-more, upto-all, upto-zeros}
 use Rattle.plan.proofs.Laws.FromBytes.{byte, word}
 use Rattle.plan.proofs.Laws.Faults.{first-check, first-none, first-of-none, first-within}
-use Rattle.plan.proofs.Laws.Files.{InWords, Came, Goes, file-accepted, file-fails}
+use Rattle.plan.proofs.Laws.Files.{InWords, Came, file-accepted, file-fails}
 
 -- The LINKs of a schedule.
 abbrev links : Schedule → List ℕ

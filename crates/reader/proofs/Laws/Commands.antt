@@ -80,12 +80,12 @@ module _ (bytes : List ℕ) (at : ℕ) (d : Draft) (m : ℕ) (is : m ≡ sizeOf 
   unfolding laterFault
   fault-flow other f q g = fault-later plans bytes at d m is known l r (rw (ne-eqb _ _ other, ← q) g)
 
+-- What the form of the bytes comes to once it is judged.
+abbrev pub judged : Outcome Site → Ruling × Site
+judged o = withSite (judgeForm o)
+
 -- END at index `at`.
 module _ (size at : ℕ) (s : Site) where
-  -- What it comes to once it is judged.
-  abbrev judged : Outcome Site → Ruling × Site
-  judged o = withSite (judgeForm o)
-
   pub end-bare : s .links ≡ 0 → withSite (refused 9 at) ≡ withSite (judgeForm (endOf size at s))
   unfolding judgeForm
   end-bare e = ap judged (sym (ended-bare size at (s .links) s e))

@@ -7,13 +7,12 @@ use mathlib.Core.List.{List}
 use mathlib.Core.Logic.{inl, inr}
 use lib.ListN.{length}
 use native.Mathlib.Omega.{arith}
-use Rattle.pinwheel.specs.Outcome.{Outcome, Ruling, refused}
-use Rattle.schedule.specs.Judge.{withSite}
+use Rattle.pinwheel.specs.Outcome.{refused}
 use Rattle.site.specs.declared.Site.{Site}
 use Rattle.site.specs.Sites.{withFlow}
 use Rattle.reader.specs.Read.{Draft, plans, fault, withNode, nodeAdded, flowAdded, decode, judgeForm, readOf}
 use Rattle.reader.specs.Inner.{Known}
-use Rattle.reader.proofs.Laws.Commands.{node-room, flow-number}
+use Rattle.reader.proofs.Laws.Commands.{node-room, flow-number, judged}
 use Rattle.format.proofs.Laws.Reading.{readOn, read-out, read-end, read-stop}
 use Rattle.reader.proofs.Laws.Decode.{decode-start, decode-node, decode-flow, fault-none, none-within, node-none, flow-none}
 use Rattle.reader.proofs.read_plan.Statement.{statement}
@@ -24,10 +23,6 @@ reading s n = record { site = s; next = n }
 
 known : (s : Site) (n : ℕ) → Known (reading s n) (s .links) n (s .parents)
 known s n = record { many = refl; least = refl; tree = refl }
-
--- What the form of the bytes comes to once it is judged.
-abbrev judged : Outcome Site → Ruling × Site
-judged o = withSite (judgeForm o)
 
 abbrev Inv-loop : tie.InvT-loop
 Inv-loop bytes site₀ next₀ at₀ site next at = readOn plans bytes at (reading site next) ≡ decode bytes

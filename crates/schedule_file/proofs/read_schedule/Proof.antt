@@ -7,7 +7,6 @@ use mathlib.Core.List.{List}
 use lib.ListN.{length}
 use native.Mathlib.Omega.{arith}
 use Rattle.pinwheel.specs.Outcome.{refused}
-use Rattle.format.proofs.Laws.{size-is-link}
 use Rattle.format.proofs.Laws.Reading.{readOn, read-out, read-end, read-stop, fault-passed}
 use Rattle.schedule_file.specs.Read.{withLinks, linkAdded, schedules, fault, scheduleRead}
 use Rattle.schedule_file.proofs.Laws.Commands.{link-passed}

@@ -1,7 +1,6 @@
 -- Right because the entries below i have been copied; 63 - i falls.
 use borrow.Author.Needs.{needs}
 use Prim.Native.Nat.{_-_}
-use native.Mathlib.Omega.{arith}
 use Rattle.embed.proofs.Laws.Lists.{Copied, copied-start, copied-more, copied-end}
 use Rattle.embed.proofs.lists.fill.Statement.{statement}
 use Rattle.embed.proofs.lists.fill.Tie as tie

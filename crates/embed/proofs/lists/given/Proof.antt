@@ -1,6 +1,5 @@
 -- Right because both lists are filled with those of the schedule, whose links have room in an answer.
 use borrow.Author.Needs.{needs}
-use native.Mathlib.Omega.{arith}
 use Rattle.embed.proofs.Laws.Told.{told-value}
 use Rattle.embed.proofs.lists.given.Statement.{statement}
 use Rattle.embed.proofs.lists.given.Tie as tie
