@@ -14,11 +14,12 @@ pub mod SiteSchedules
 pub mod Near
 use Prim.Native.Nat.{ℕ, _+_, _≤_}
 use mathlib.Core.Path.{_≡_, refl, sym, _∙_, ap}
-use mathlib.Core.Bool.{true}
+use mathlib.Core.Bool.{Bool, true, false, cond, false≢true}
 use mathlib.Core.List.{List, _++_}
 use mathlib.Core.Logic.{_⊎_, inl, inr, ⊎-elim, _↔_}
+use lib.Dec.{eqb}
 use lib.ListN.{length, take, drop}
-use borrow.Author.Tests.{le-ltb, ne-eqb}
+use borrow.Author.Tests.{le-ltb, ne-eqb, eqb-true, eqb-false}
 use native.Mathlib.Omega.{arith}
 use Rattle.pinwheel.specs.Outcome.{accepted, refused, orElse}
 use Rattle.pinwheel.proofs.Laws.Search.{lt-or-le}
@@ -169,6 +170,33 @@ schedule-passes-when s = (
   ⊎-elim (λ e. rw e (passes-listed withoutLinks .1 without-listed))
       (λ v. passes-listed s .1 (schedule-form (v .0) (v .1) s (v .2) .listed)),
 )
+
+-- So a writer gives 14 just to a schedule that no file reads to, save the one without links, which gets 9.
+pub schedule-foreign : (s : Schedule)
+    → (scheduleFault s ≡ 14) ↔ ((s ≡ withoutLinks → ⊥) × ((bytes : List ℕ) → Bytes bytes → scheduleRead bytes ≡ accepted s → ⊥))
+unfolding handedFault
+schedule-foreign s = go (schedulePasses s) refl (eqb (s .links) 0)
+  where
+    go : (t : Bool) → schedulePasses s ≡ t → (b : Bool)
+        → (_≡_ {A = ℕ} (cond t (cond b 9 0) 14) 14) ↔ ((s ≡ withoutLinks → ⊥) × ((bytes : List ℕ) → Bytes bytes → scheduleRead bytes ≡ accepted s → ⊥))
+    go true e true = (λ q. absurd (omega arith), λ w. absurd (⊎-elim (w .0) (λ v. w .1 (v .0) (v .1) (v .2)) (schedule-passes-when s .0 e)))
+    go true e false = (λ q. absurd (omega arith), λ w. absurd (⊎-elim (w .0) (λ v. w .1 (v .0) (v .1) (v .2)) (schedule-passes-when s .0 e)))
+    go false e b = (
+      λ q. (
+        λ z. false≢true (sym e ∙ schedule-passes-when s .1 (inl z)),
+        λ bytes small r. false≢true (sym e ∙ schedule-passes-when s .1 (inr (bytes, small, r))),
+      ),
+      λ w. refl,
+    )
+
+pub schedule-bare : (s : Schedule) → (scheduleFault s ≡ 9) ↔ (s ≡ withoutLinks)
+unfolding handedFault
+schedule-bare s = go (schedulePasses s) refl (eqb (s .links) 0) refl
+  where
+    go : (t : Bool) → schedulePasses s ≡ t → (b : Bool) → eqb (s .links) 0 ≡ b → (_≡_ {A = ℕ} (cond t (cond b 9 0) 14) 9) ↔ (s ≡ withoutLinks)
+    go true e true z = (λ q. listed-without s (passes-listed s .0 e) (eqb-true _ _ z), λ w. refl)
+    go true e false z = (λ q. absurd (omega arith), λ w. absurd (eqb-false _ _ z (ap (λ (t : Schedule). t .links) w)))
+    go false e b z = (λ q. absurd (omega arith), λ w. absurd (false≢true (sym e ∙ schedule-passes-when s .1 (inl w))))
 
 -- A file that the writer made, from a schedule or from a site, reads back to the schedule that made it; what stood behind it in the slice stands there still.
 pub schedule-made : (s : Schedule) (out new : List ℕ) (size : ℕ) → scheduleWritten s out ≡ (accepted size, new)
