@@ -8,9 +8,13 @@ use Rattle.pinwheel.specs.Search.{first}
 use Rattle.schedule_file.specs.declared.Schedule.{Schedule}
 use Rattle.schedule_file.specs.Read.{badSlots}
 
--- The entries at index i of a schedule with so many links are not within their limits or, past the last link, not both 0.
+-- The entries of a link are not both 0.
+unfoldable pub inUse : ℕ → ℕ → Bool
+inUse offset period = not (eqb offset 0 && eqb period 0)
+
+-- The entries at index i of a schedule with so many links are not within their limits or, past the last link, in use.
 unfoldable pub illLink : ℕ → ℕ → ℕ → ℕ → Bool
-illLink links i offset period = cond (ltb i links) (badSlots offset period) (not (eqb offset 0 && eqb period 0))
+illLink links i offset period = cond (ltb i links) (badSlots offset period) (inUse offset period)
 
 -- The first index with such entries, 63 where there is none.
 unfoldable pub firstIllLink : Schedule → ℕ

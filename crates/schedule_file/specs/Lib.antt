@@ -1,3 +1,4 @@
 pub mod Read
 pub mod Check
 pub mod Words
+pub mod Inner

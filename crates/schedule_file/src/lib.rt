@@ -1,13 +1,13 @@
 // Schedules by value, the reading of their files, and check 14 of one that is handed in.
 use schedule::Verdict;
 ghost use mathlib.Core.Path.{_≡_};
-ghost use Prim.Native.Nat.{_+_, _<_};
-ghost use lib.ListN.{length};
+ghost use Prim.Native.Nat.{_+_, _≤_, _<_};
+ghost use lib.ListN.{length, getD};
 ghost use Rattle.pinwheel.specs.Outcome.{refused};
 ghost use Rattle.schedule.specs.Judge.{ruling};
-ghost use Rattle.schedule_file.specs.Read.{withoutLinks, withLinks, linkAt, outOfOrder, badSlots, linkFault, endOf, scheduleRead};
-ghost use Rattle.schedule_file.specs.Read.{fault};
-ghost use Rattle.schedule_file.specs.Check.{illLink, schedulePasses};
+ghost use Rattle.schedule_file.specs.Read.{withoutLinks, withLinks, linkAt, outOfOrder, badSlots, linkFault, endOf, fault, scheduleRead};
+ghost use Rattle.schedule_file.specs.Check.{inUse, schedulePasses};
+ghost use Rattle.schedule_file.specs.Inner.{Found};
 
 // How many links there are, and when each sends: link n at index n - 1. Entries past the last link are 0.
 pub struct Schedule {
@@ -155,17 +155,45 @@ pub fn read_schedule(bytes: &[u8]) -> Reading
     refusal(2, bytes.len())
 }
 
-// The entries at index i of a schedule with so many links are not as they should be.
-fn ill_link(links: u8, i: usize, offset: u16, period: u16) -> bool
-    ensures { λ r. ⌜ r ≡ illLink links i offset period ⌝ }
+// Whether some link's slots are not within their limits.
+fn slots_bad<'a>(links: u8, offsets: &'a [u16; 63], periods: &'a [u16; 63]) -> bool
+    requires { ⌜ links ≤ 63 ⌝ }
+    ensures { λ r. ⌜ Found (λ k. badSlots (getD (now (offsets .entry)) k 0) (getD (now (periods .entry)) k 0)) 0 links r ⌝ }
 {
-    if i < links as usize {
-        return bad_slots(offset, period);
+    let n = links as usize;
+    let mut i = 0;
+    while i < n {
+        if bad_slots(offsets[i], periods[i]) {
+            return true;
+        }
+        i += 1;
     }
+    false
+}
+
+fn in_use(offset: u16, period: u16) -> bool
+    ensures { λ r. ⌜ r ≡ inUse offset period ⌝ }
+{
     if offset != 0 {
         return true;
     }
     period != 0
+}
+
+// Whether something stands past the last link. No entry ends the loop, so that it takes several at a time.
+fn rest_used<'a>(links: u8, offsets: &'a [u16; 63], periods: &'a [u16; 63]) -> bool
+    requires { ⌜ links ≤ 63 ⌝ }
+    ensures { λ r. ⌜ Found (λ k. inUse (getD (now (offsets .entry)) k 0) (getD (now (periods .entry)) k 0)) links 63 r ⌝ }
+{
+    let mut used = false;
+    let mut i = links as usize;
+    while i < 63 {
+        if in_use(offsets[i], periods[i]) {
+            used = true;
+        }
+        i += 1;
+    }
+    used
 }
 
 // Check 14 of a schedule.
@@ -176,12 +204,8 @@ pub fn passes(schedule: Schedule) -> bool
     if 63 < links {
         return false;
     }
-    let mut i = 0;
-    while i < 63 {
-        if ill_link(links, i, schedule.offsets[i], schedule.periods[i]) {
-            return false;
-        }
-        i += 1;
+    if slots_bad(links, &schedule.offsets, &schedule.periods) {
+        return false;
     }
-    true
+    !rest_used(links, &schedule.offsets, &schedule.periods)
 }
