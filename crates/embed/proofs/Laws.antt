@@ -22,7 +22,7 @@ use Rattle.writer.specs.Write.{planBytes, siteFault, writtenIf, scheduleWritten
 use Rattle.writer.proofs.Laws.{written-accepted}
 use Rattle.writer.proofs.Laws.Write.{fault-passed}
 use Rattle.schedule_file.specs.declared.Schedule.{Schedule}
-use Rattle.schedule_file.specs.Read.{scheduleRead}
+use Rattle.schedule_file.specs.Read.{ofLists, scheduleRead}
 use Rattle.plan.proofs.Laws.{written-read, schedule-made, schedule-again}
 use Rattle.plan.proofs.Laws.Schedules.{schedule-form}
 use Rattle.embed.proofs.Laws.Calls.{by-yes, of-length}
@@ -162,7 +162,7 @@ unfolding scheduleWrittenFrom scheduleReadFrom
 schedule-file-reads links offsets periods out size new e starts lengths long as-long =
     let a = of-list offsets 63 _ _ _ (λ q. unlike (ap (λ (r : Outcome ℕ × List ℕ). r .0) q)) e in
     let b = of-list periods 63 _ _ _ (λ q. unlike (ap (λ (r : Outcome ℕ × List ℕ). r .0) q)) (a .1) in
-    let w = schedule-made (record { links = links; offsets = offsets; periods = periods }) out new size (b .1) in (
+    let w = schedule-made (ofLists links offsets periods) out new size (b .1) in (
       sym (by-yes (scheduleRead (take size new)) linksOf _ _ (w .0)
           ∙ of-length lengths 63 _ _ as-long ∙ of-length starts 63 _ _ long),
       w .1,
@@ -180,7 +180,7 @@ schedule-file-again file offsets periods small links starts lengths e out room =
   where
     go : (o : Outcome Schedule) → scheduleRead file ≡ o
         → byReading o (λ number place. (refused number place, offsets, periods)) linksOf ≡ (accepted links, starts, lengths)
-        → ofLength starts 63 (refused 1 0, out) (ofLength lengths 63 (refused 1 0, out) (scheduleWritten (record { links = links; offsets = starts; periods = lengths }) out))
+        → ofLength starts 63 (refused 1 0, out) (ofLength lengths 63 (refused 1 0, out) (scheduleWritten (ofLists links starts lengths) out))
         ≡ (accepted (length file), file ++ drop (length file) out)
     go (accepted s) q f =
         let first : _≡_ {A = Outcome ℕ} (accepted (s .links)) (accepted links) = ap (λ (r : Outcome ℕ × List ℕ × List ℕ). r .0) f in

@@ -11,7 +11,7 @@ use Rattle.site.specs.Sites.{live}
 use Rattle.site.specs.Reservations.{sumTo, delayBound}
 use Rattle.reader.specs.Read.{readOf}
 use Rattle.schedule_file.specs.declared.Schedule.{Schedule}
-use Rattle.schedule_file.specs.Read.{scheduleRead}
+use Rattle.schedule_file.specs.Read.{ofLists, scheduleRead}
 use Rattle.writer.specs.Write.{planBytes, scheduleOf, scheduleBytes, writtenIf, scheduleWritten}
 use Rattle.admission.specs.Calls.{admitOf, numberRuling, releaseOf}
 use Rattle.simulation.specs.Sender.{senderOf}
@@ -70,7 +70,7 @@ scheduleReadFrom file offsets periods =
 unfoldable pub scheduleWrittenFrom : ℕ → List ℕ → List ℕ → List ℕ → Outcome ℕ × List ℕ
 scheduleWrittenFrom links offsets periods out =
     ofLength offsets 63 (refused 1 0, out)
-    (ofLength periods 63 (refused 1 0, out) (scheduleWritten (record { links = links; offsets = offsets; periods = periods }) out))
+    (ofLength periods 63 (refused 1 0, out) (scheduleWritten (ofLists links offsets periods) out))
 
 -- What a writing leaves of the counters: the new ones only where the bytes found room.
 unfoldable pub stored : Outcome ℕ × List ℕ → List ℕ → List ℕ → Outcome ℕ × List ℕ × List ℕ

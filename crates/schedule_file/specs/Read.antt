@@ -11,9 +11,13 @@ use Rattle.format.specs.Reading.{Kind, faultOf, ended, readFrom}
 use Rattle.schedule_file.specs.declared.Link.{Link}
 use Rattle.schedule_file.specs.declared.Schedule.{Schedule}
 
+-- The schedule of so many links with these offsets and periods.
+abbrev pub ofLists : ℕ → List ℕ → List ℕ → Schedule
+ofLists links offsets periods = record { links = links; offsets = offsets; periods = periods }
+
 -- The schedule without links: every entry is 0.
 abbrev pub withoutLinks : Schedule
-withoutLinks = record { links = 0; offsets = replicate 63 0; periods = replicate 63 0 }
+withoutLinks = ofLists 0 (replicate 63 0) (replicate 63 0)
 
 -- 01: a refused reading of a schedule gives the one without links.
 unfoldable pub withLinks : Outcome Schedule → Ruling × Schedule

@@ -7,6 +7,7 @@ ghost use lib.ListN.{length};
 ghost use lib.Seq.{sets};
 ghost use Rattle.writer.specs.Write.{writing, nodeCommand, nodeBytes, flowCommand, flowIfLive, linkCommand, linkBytes, planBytes, scheduleBytes};
 ghost use Rattle.pinwheel.specs.Search.{joined};
+ghost use Rattle.schedule_file.specs.Read.{ofLists};
 ghost use Rattle.writer.specs.Write.{scheduleOf, written, encoded, handedFault, writtenIf, scheduleWritten};
 
 // The number of bytes written, or the number and the place of a refusal.
@@ -136,35 +137,21 @@ fn put_plan(site: Site, out: &mut [u8]) -> Written
 }
 
 // All links, from the start on; answers the index after them.
-fn put_links(schedule: Schedule, out: &mut [u8]) -> usize
-    requires { ⌜ (schedule .links ≤ 63) × (length (joined (linkBytes schedule) (schedule .links) 0) ≤ length (now out)) ⌝ }
-    ensures { λ r. ⌜ (now (out .exit) ≡ sets (now (out .entry)) 0 (joined (linkBytes schedule) (schedule .links) 0))
-        × (r ≡ length (joined (linkBytes schedule) (schedule .links) 0)) ⌝ }
+fn put_links<'a>(links: u8, offsets: &'a [u16; 63], periods: &'a [u16; 63], out: &mut [u8]) -> usize
+    requires { ⌜ (links ≤ 63) × (length (joined (linkBytes (ofLists links (now offsets) (now periods))) links 0) ≤ length (now out)) ⌝ }
+    ensures { λ r. ⌜ (now (out .exit) ≡ sets (now (out .entry)) 0 (joined (linkBytes (ofLists links (now (offsets .entry)) (now (periods .entry)))) links 0))
+        × (r ≡ length (joined (linkBytes (ofLists links (now (offsets .entry)) (now (periods .entry)))) links 0)) ⌝ }
 {
-    let n = schedule.links as usize;
+    let n = links as usize;
     let mut at = 0;
     let mut i = 0;
     while i < n {
-        let command = link_command((i + 1) as u8, schedule.offsets[i], schedule.periods[i]);
+        let command = link_command((i + 1) as u8, offsets[i], periods[i]);
         put(out, at, &command);
         at += format::schedule_size(17);
         i += 1;
     }
     at
-}
-
-// A schedule that passed the other checks.
-fn put_schedule(schedule: Schedule, out: &mut [u8]) -> Written
-    requires { ⌜ schedule .links ≤ 63 ⌝ }
-    ensures { λ r. ⌜ (writing r, now (out .exit)) ≡ written (scheduleBytes schedule) (now (out .entry)) ⌝ }
-{
-    let size = format::schedule_size(17) * schedule.links as usize + 1;
-    if out.len() < size {
-        return Written::Refused(1, 0);
-    }
-    let end = put_links(schedule, out);
-    out[end] = 255;
-    Written::Length(size)
 }
 
 // The plan bytes of a site whose checks 14 and 9 are not asked here.
@@ -181,10 +168,17 @@ pub fn encode_plan(site: Site, out: &mut [u8]) -> Written
 pub fn encode_schedule(schedule: Schedule, out: &mut [u8]) -> Written
     ensures { λ r. ⌜ (writing r, now (out .exit)) ≡ encoded (schedule .links) (scheduleBytes schedule) (now (out .entry)) ⌝ }
 {
-    if 63 < schedule.links {
+    let links = schedule.links;
+    if 63 < links {
         return Written::Refused(14, 0);
     }
-    put_schedule(schedule, out)
+    let size = format::schedule_size(17) * links as usize + 1;
+    if out.len() < size {
+        return Written::Refused(1, 0);
+    }
+    let end = put_links(links, &schedule.offsets, &schedule.periods, out);
+    out[end] = 255;
+    Written::Length(size)
 }
 
 // The schedule of a site.
