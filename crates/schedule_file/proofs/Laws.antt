@@ -9,13 +9,13 @@ use mathlib.Core.Bool.{true, and-eq-true-iff}
 use mathlib.Core.List.{List}
 use mathlib.Core.Logic.{_↔_}
 use lib.ListN.{take}
-use borrow.Author.Tests.{le-leb, eq-eqb, leb-true, eqb-true}
+use borrow.Author.Tests.{le-leb, eq-eqb, leb-true, eqb-true, not-true}
 use Rattle.pinwheel.specs.Outcome.{refused, orElse}
 use Rattle.schedule_file.specs.declared.Schedule.{Schedule}
 use Rattle.schedule_file.specs.Read.{withoutLinks, withLinks, scheduleRead}
 use Rattle.schedule_file.specs.Check.{schedulePasses}
 use Rattle.schedule_file.specs.Words.{Listed}
-use Rattle.schedule_file.proofs.Laws.Check.{none-ill, all-well}
+use Rattle.schedule_file.proofs.Laws.Check.{all-well, none-bad, none-used}
 use Rattle.schedule_file.proofs.Laws.Readings.{schedule-settled}
 
 -- Check 14 asks just whether every entry is as it should be.
@@ -25,8 +25,9 @@ passes-listed s = (
   λ e. let a = and-eq-true-iff _ _ .0 e in
       let b = and-eq-true-iff _ _ .0 (a .1) in
       let c = and-eq-true-iff _ _ .0 (b .1) in
-      all-well s (eqb-true _ _ (a .0)) (eqb-true _ _ (b .0)) (leb-true _ _ (c .0)) (leb-true _ _ (c .1)),
-  λ w. rw (eq-eqb _ _ (w .offsets-long), eq-eqb _ _ (w .periods-long), le-leb _ _ (w .few), le-leb _ _ (none-ill s w)),
+      let d = and-eq-true-iff _ _ .0 (c .1) in
+      all-well s (eqb-true _ _ (a .0)) (eqb-true _ _ (b .0)) (leb-true _ _ (c .0)) (not-true _ (d .0)) (not-true _ (d .1)),
+  λ w. rw (eq-eqb _ _ (w .offsets-long), eq-eqb _ _ (w .periods-long), le-leb _ _ (w .few), none-bad s w, none-used s w),
 )
 
 -- 01: a refused reading gives the schedule without links.

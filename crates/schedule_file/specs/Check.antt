@@ -1,26 +1,27 @@
 -- 02, U1, check 14 of a schedule that is handed in, as tests on its entries: whether it is the one without links or what some file reads to. That these tests say
 -- just this is the law `schedule-passes-when` of crate `plan`.
-use Prim.Native.Nat.{ℕ}
-use mathlib.Core.Bool.{Bool, not, cond, _&&_}
-use lib.Dec.{eqb, ltb, leb}
+use Prim.Native.Nat.{ℕ, _-_}
+use mathlib.Core.Bool.{Bool, not, _&&_}
+use mathlib.Core.List.{List}
+use lib.Dec.{eqb, leb}
 use lib.ListN.{length, getD}
-use Rattle.pinwheel.specs.Search.{first}
+use Rattle.pinwheel.specs.Search.{any}
 use Rattle.schedule_file.specs.declared.Schedule.{Schedule}
 use Rattle.schedule_file.specs.Read.{badSlots}
 
--- The entries of a link are not both 0.
+-- An offset and a period are not both 0.
 unfoldable pub inUse : ℕ → ℕ → Bool
 inUse offset period = not (eqb offset 0 && eqb period 0)
 
--- The entries at index i of a schedule with so many links are not within their limits or, past the last link, in use.
-unfoldable pub illLink : ℕ → ℕ → ℕ → ℕ → Bool
-illLink links i offset period = cond (ltb i links) (badSlots offset period) (inUse offset period)
+-- The two tests at index i of such lists.
+abbrev pub badAt : List ℕ → List ℕ → ℕ → Bool
+badAt offsets periods i = badSlots (getD offsets i 0) (getD periods i 0)
 
--- The first index with such entries, 63 where there is none.
-unfoldable pub firstIllLink : Schedule → ℕ
-firstIllLink s = first (λ i. illLink (s .links) i (getD (s .offsets) i 0) (getD (s .periods) i 0)) 63 0
+abbrev pub usedAt : List ℕ → List ℕ → ℕ → Bool
+usedAt offsets periods i = inUse (getD offsets i 0) (getD periods i 0)
 
--- 02, 14 lets the schedule pass: it has 63 links at most, both lists have 63 entries, and all are as they should be.
+-- 02, 14 lets the schedule pass: both lists have 63 entries, there are 63 links at most, each has its slots within the limits, and all behind the last is 0.
 unfoldable pub schedulePasses : Schedule → Bool
 schedulePasses s =
-    eqb (length (s .offsets)) 63 && (eqb (length (s .periods)) 63 && (leb (s .links) 63 && leb 63 (firstIllLink s)))
+    eqb (length (s .offsets)) 63 && (eqb (length (s .periods)) 63 && (leb (s .links) 63
+    && (not (any (badAt (s .offsets) (s .periods)) (s .links) 0) && not (any (usedAt (s .offsets) (s .periods)) (63 - s .links) (s .links)))))

@@ -1,4 +1,3 @@
 pub mod Read
 pub mod Check
 pub mod Words
-pub mod Inner

@@ -1,13 +1,13 @@
 // Schedules by value, the reading of their files, and check 14 of one that is handed in.
 use schedule::Verdict;
 ghost use mathlib.Core.Path.{_≡_};
-ghost use Prim.Native.Nat.{_+_, _≤_, _<_};
-ghost use lib.ListN.{length, getD};
+ghost use Prim.Native.Nat.{_+_, _-_, _≤_, _<_};
+ghost use lib.ListN.{length};
 ghost use Rattle.pinwheel.specs.Outcome.{refused};
 ghost use Rattle.schedule.specs.Judge.{ruling};
 ghost use Rattle.schedule_file.specs.Read.{withoutLinks, withLinks, linkAt, outOfOrder, badSlots, linkFault, endOf, fault, scheduleRead};
-ghost use Rattle.schedule_file.specs.Check.{inUse, schedulePasses};
-ghost use Rattle.schedule_file.specs.Inner.{Found};
+ghost use Rattle.schedule_file.specs.Check.{inUse, badAt, usedAt, schedulePasses};
+ghost use Rattle.pinwheel.specs.Search.{any};
 
 // How many links there are, and when each sends: link n at index n - 1. Entries past the last link are 0.
 pub struct Schedule {
@@ -158,7 +158,7 @@ pub fn read_schedule(bytes: &[u8]) -> Reading
 // Whether some link's slots are not within their limits.
 fn slots_bad<'a>(links: u8, offsets: &'a [u16; 63], periods: &'a [u16; 63]) -> bool
     requires { ⌜ links ≤ 63 ⌝ }
-    ensures { λ r. ⌜ Found (λ k. badSlots (getD (now (offsets .entry)) k 0) (getD (now (periods .entry)) k 0)) 0 links r ⌝ }
+    ensures { λ r. ⌜ r ≡ any (badAt (now (offsets .entry)) (now (periods .entry))) links 0 ⌝ }
 {
     let n = links as usize;
     let mut i = 0;
@@ -182,8 +182,7 @@ fn in_use(offset: u16, period: u16) -> bool
 
 // Whether something stands past the last link. No entry ends the loop, so that it takes several at a time.
 fn rest_used<'a>(links: u8, offsets: &'a [u16; 63], periods: &'a [u16; 63]) -> bool
-    requires { ⌜ links ≤ 63 ⌝ }
-    ensures { λ r. ⌜ Found (λ k. inUse (getD (now (offsets .entry)) k 0) (getD (now (periods .entry)) k 0)) links 63 r ⌝ }
+    ensures { λ r. ⌜ r ≡ any (usedAt (now (offsets .entry)) (now (periods .entry))) (63 - links) links ⌝ }
 {
     let mut used = false;
     let mut i = links as usize;

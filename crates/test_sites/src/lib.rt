@@ -48,14 +48,12 @@ pub fn altered(site: Site, line: &[u8], start: usize) -> Site {
     let mut next = site;
     let mut at = start;
     while at < line.len() {
-        let field = test_text::next_number(line, at);
-        let index = test_text::next_number(line, field.next);
-        let value = test_text::next_number(line, index.next);
-        if value.found {
-            let more = changed(next, field.value, index.value, value.value);
+        let change = test_text::next_change(line, at);
+        if change.found {
+            let more = changed(next, change.field, change.index, change.value);
             next = more;
         }
-        at = value.next;
+        at = change.next;
     }
     next
 }

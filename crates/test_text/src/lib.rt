@@ -185,6 +185,31 @@ pub fn next_number(line: &[u8], start: usize) -> Number
     }
 }
 
+// A change of one entry that a line asks for: field, index and value, and the index of the line behind them. `found` is false where one of the three is missing.
+pub struct Change {
+    pub found: bool,
+    pub field: usize,
+    pub index: usize,
+    pub value: usize,
+    pub next: usize,
+}
+
+// The first change of the line from `start` on.
+pub fn next_change(line: &[u8], start: usize) -> Change
+    ensures { λ r. ⌜ (start < length (now (line .entry)) → start < r .next) × (r .next ≤ length (now (line .entry))) ⌝ }
+{
+    let field = next_number(line, start);
+    let index = next_number(line, field.next);
+    let value = next_number(line, index.next);
+    Change {
+        found: value.found,
+        field: field.value,
+        index: index.value,
+        value: value.value,
+        next: value.next,
+    }
+}
+
 // The low 8, 16 and 32 bits of a number.
 pub fn low8(value: usize) -> u8
     ensures { λ r. ⌜ r ≡ value % 256 ⌝ }

@@ -1,4 +1,4 @@
--- Right because each number lies behind the one before; length line - at falls.
+-- Right because each change lies behind the one before; length line - at falls.
 use borrow.Author.Needs.{needs}
 use Prim.Native.Nat.{_-_}
 use lib.ListN.{length}
@@ -15,26 +15,20 @@ abbrev μ-loop : tie.MeasureT-loop
 loop-holds : tie.Need-loop-holds Inv-loop μ-loop
 loop-holds c = tt
 
-next-number-requires : tie.Need-next-number-requires Inv-loop μ-loop
-next-number-requires c κs = search needs
-
-next-number-requires-2 : tie.Need-next-number-requires-2 Inv-loop μ-loop
-next-number-requires-2 c κs = search needs
-
-next-number-requires-3 : tie.Need-next-number-requires-3 Inv-loop μ-loop
-next-number-requires-3 c κs = search needs
+next-change-requires : tie.Need-next-change-requires Inv-loop μ-loop
+next-change-requires c κs = search needs
 
 changed-requires : tie.Need-changed-requires Inv-loop μ-loop
 changed-requires c κs = search needs
 
 loop-less : tie.Need-loop-less Inv-loop μ-loop
-loop-less c = omega (arith, c .before .before .before .before .next-number .ensures .2 (omega arith))
+loop-less c = omega (arith, c .before .before .next-change .ensures .0 (omega arith))
 
 loop-again : tie.Need-loop-again Inv-loop μ-loop
 loop-again c = tt
 
 loop-less-2 : tie.Need-loop-less-2 Inv-loop μ-loop
-loop-less-2 c = omega (arith, c .before .before .before .next-number .ensures .2 (omega arith))
+loop-less-2 c = omega (arith, c .before .next-change .ensures .0 (omega arith))
 
 loop-again-2 : tie.Need-loop-again-2 Inv-loop μ-loop
 loop-again-2 c = tt
@@ -45,4 +39,14 @@ returns c = search needs
 pub altered-spec : {M : Type 1} → statement M
 altered-spec =
     tie.close
-    (tie.spec Inv-loop μ-loop loop-holds next-number-requires next-number-requires-2 next-number-requires-3 changed-requires loop-less loop-again loop-less-2 loop-again-2 returns)
+    (tie.spec
+    Inv-loop
+    μ-loop
+    loop-holds
+    next-change-requires
+    changed-requires
+    loop-less
+    loop-again
+    loop-less-2
+    loop-again-2
+    returns)
