@@ -9,6 +9,7 @@ use mathlib.Core.List.{List, []}
 use mathlib.Core.Logic.{_↔_}
 use lib.Dec.{eqb, ltb}
 use lib.ListN.{length, getD}
+use lib.Seq.{getD-set-same}
 use borrow.Author.Tests.{lt-ltb, ne-eqb, ltb-true, ltb-false, eqb-true, eqb-false, not-true, not-false}
 use native.Mathlib.Omega.{arith}
 use Rattle.pinwheel.specs.Outcome.{Ruling, accepted, refused, settled, none, Ruled, nothing}
@@ -16,7 +17,7 @@ use Rattle.pinwheel.proofs.Laws.Outcomes.{past, checked-past, settled-accepted,
 use Rattle.site.specs.declared.Site.{Site}
 use Rattle.site.specs.declared.Flow.{Flow}
 use Rattle.site.specs.Sites.{live, withFlow, withoutFlow}
-use Rattle.site.specs.Reservations.{gapsJudged, along}
+use Rattle.site.specs.Reservations.{gapsJudged, routeOf, widthAt, along, delayBound}
 use Rattle.site.specs.Words.{HasRoom, RoomAlong, UnfitAt}
 use Rattle.site.proofs.Laws.{room-when, unfit-when}
 use Rattle.site.proofs.Laws.Tree.{has-when, route-some}
@@ -28,7 +29,7 @@ use Rattle.limits.proofs.Laws.Forms.{flow-good}
 use Rattle.counters.specs.Blocks.{cellsOf, withCells, zeros}
 use Rattle.counters.proofs.Laws.{length-with, block-same, block-other, length-zeros}
 use Rattle.admission.specs.Calls.{change, routeFor, unfitLink, flowRuling, admitRuling, admitOf, numberRuling, releaseRuling, releaseOf}
-use Rattle.admission.specs.Words.{Admissible, Releasable, admissionChecks, releaseChecks}
+use Rattle.admission.specs.Words.{boundFor, Admissible, Releasable, admissionChecks, releaseChecks}
 use Rattle.admission.proofs.Laws.Answers.{flow-passes, number-passes, call-passes}
 use Rattle.admission.proofs.Laws.Again.{again-site, again-admissible}
 
@@ -38,7 +39,7 @@ route-room s f = room-when s (f .rate) (routeFor s f) (route-some (s .parents) (
 
 -- An admission is accepted just when it is as the words say.
 pub admits-when : (s : Site) (counters : List ℕ) (f : Flow) → (admitRuling s counters f ≡ accepted tt) ↔ Admissible s counters f
-unfolding flowRuling admitRuling
+unfolding flowRuling admitRuling gapsJudged
 admits-when s counters f = (
   λ e. let a = checked-past (callFault s counters) _ e in
       let b = checked-past (flowLimits (s .links) 0 f) _ (a .1) in
@@ -79,7 +80,7 @@ released-cells s counters n e = let w = releases-when s counters n .0 e in omega
 
 -- An admission is refused by the first check that fails, with its place, and accepted where none fails.
 pub admits-first : (s : Site) (counters : List ℕ) (f : Flow) (o : Ruling) → (admitRuling s counters f ≡ o) ↔ Ruled nothing (admissionChecks s counters f) o
-unfolding flowRuling admitRuling
+unfolding flowRuling admitRuling gapsJudged
 admits-first s counters f o =
     call-first nothing o _ _ s counters (flow-first nothing o _ _ (s .links) f
     (ruled-test nothing o (live s (f .number)) 15 (f .number) _ _ _ (λ e. e, λ e. e)
@@ -106,6 +107,11 @@ releases-first s counters n o =
     (ruled-test nothing o (ltb 63 n) 5 0 _ _ _ (ltb-true _ _, lt-ltb _ _)
     (λ _. ruled-test nothing o (not (live s n)) 16 n _ none _ (not-true _, λ e. rw e)
     (λ _. ruled-end nothing o tt tt (λ b w. refl))))
+
+-- 02, U2: the number that 18 judges is G, as the flow has it once it is live.
+pub bound-asked : (s : Site) → passesOf s ≡ true → (f : Flow) → f .number ≤ 63 → delayBound (withFlow s f) (f .number) ≡ boundFor s f
+unfolding delayBound routeOf withFlow
+bound-asked s e f few = rw (getD-set-same (s .entries) (f .number) (f .entry) 0 (omega (arith, passes-sound s .0 e .formed .shape .entries)))
 
 -- What a change tells that was accepted, and one that was refused: by any ruling.
 module _ (r : Ruling) (next s t : Site) (new counters ds : List ℕ) where
@@ -164,6 +170,7 @@ cells-after counters n long few =
 
 -- A site that passes check 14 passes it after an accepted admission. (After a release it does by `flow-taken` of crate `limits`.)
 pub admitted-passes : (s : Site) (counters : List ℕ) (f : Flow) → Admissible s counters f → passesOf (withFlow s f) ≡ true
+unfolding gapsJudged widthAt
 admitted-passes s counters f w =
     flow-added s (passes-sound s .1 (w .sound)) f (w .free) (w .good) (λ m h. fits m (has-when m (routeFor s f) .0 h)) (w .time)
   where

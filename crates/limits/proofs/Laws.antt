@@ -113,12 +113,7 @@ module _ (s : Site) (e : passesOf s ≡ true) where
 
   -- G is at most the deadline of every live flow.
   pub bound-within : (n : ℕ) → live s n ≡ true → delayBound s n ≤ getD (s .deadlines) n 0
-  unfolding gapsJudged flowOf
-  bound-within n l = omega (
-    arith,
-    slots.bound-within s (sound-timed s sound) n (live-fits s (sound .formed) n l .entry-most),
-    sound .punctual .within n (live-few s (sound .formed) n l) l,
-  )
+  bound-within n l = sound .punctual .within n (live-few s (sound .formed) n l) l
 
   -- A route reaches the root, has at most 8 links, and its links' numbers fall.
   pub route-whole : (n : ℕ) → live s n ≡ true

@@ -1,4 +1,4 @@
--- The starred examples of 01, "Marked plans", as one table. A row names an input and its whole result; what it claims is said by the
+-- The starred examples of 01, "Marked plans", with those that 02 puts in their place, as one table. A row names an input and its whole result; what it claims is said by the
 -- definitions that the promises cite.
 use Prim.Native.Nat.{ℕ, zero, suc, _+_}
 use mathlib.Core.Path.{_≡_}
@@ -58,14 +58,14 @@ siteP states entries rates deadlines = record {
   deadlines = deadlines;
 }
 
--- P as it is read, and P with number 5 at node 2, rate 3 and deadline 6.
+-- P as it is read, and P with number 5 at node 2 with this rate and deadline.
 abbrev pub readP : Site
 readP = siteP (1 ∷ replicate 63 0) (3 ∷ replicate 63 0) (3 ∷ replicate 63 0) (7 ∷ replicate 63 0)
 
-abbrev admittedP : Site
-admittedP =
+abbrev admittedP : ℕ → ℕ → Site
+admittedP rate deadline =
     siteP (1 ∷ 0 ∷ 0 ∷ 0 ∷ 0 ∷ 1 ∷ replicate 58 0) (3 ∷ 0 ∷ 0 ∷ 0 ∷ 0 ∷ 2 ∷ replicate 58 0)
-    (3 ∷ 0 ∷ 0 ∷ 0 ∷ 0 ∷ 3 ∷ replicate 58 0) (7 ∷ 0 ∷ 0 ∷ 0 ∷ 0 ∷ 6 ∷ replicate 58 0)
+    (3 ∷ 0 ∷ 0 ∷ 0 ∷ 0 ∷ rate ∷ replicate 58 0) (7 ∷ 0 ∷ 0 ∷ 0 ∷ 0 ∷ deadline ∷ replicate 58 0)
 
 -- r counters from number i on, no two equal; the last of all 576 is 4,294,967,295.
 abbrev pub counters : ℕ → ℕ → List ℕ
@@ -94,9 +94,12 @@ table =
     reads (planP 9 6) (refused 13 0, emptySite) ∷
     reads (planP 8 7) (refused 12 3, emptySite) ∷
     admits (planP 9 7) (counters 576 0) (record { number = 5; entry = 2; rate = 3; deadline = 6 })
-    (accepted tt, admittedP, counters 45 0 ++ (replicate 9 0 ++ counters 522 54)) ∷
-    admits (planP 9 7) (counters 576 0) (record { number = 5; entry = 2; rate = 4; deadline = 6 }) (refused 17 2, readP, counters 576 0) ∷
-    admits (planP 9 7) (counters 576 0) (record { number = 5; entry = 2; rate = 3; deadline = 5 }) (refused 18 5, readP, counters 576 0) ∷
+    (accepted tt, admittedP 3 6, counters 45 0 ++ (replicate 9 0 ++ counters 522 54)) ∷
+    -- 02, U2: this is admissible by link 2's period, 4, and was not by its wanted gap, 6; 17 takes rate 6 and 18 deadline 3.
+    admits (planP 9 7) (counters 576 0) (record { number = 5; entry = 2; rate = 4; deadline = 5 })
+    (accepted tt, admittedP 4 5, counters 45 0 ++ (replicate 9 0 ++ counters 522 54)) ∷
+    admits (planP 9 7) (counters 576 0) (record { number = 5; entry = 2; rate = 6; deadline = 6 }) (refused 17 2, readP, counters 576 0) ∷
+    admits (planP 9 7) (counters 576 0) (record { number = 5; entry = 2; rate = 3; deadline = 3 }) (refused 18 5, readP, counters 576 0) ∷
     plays (planP 9 7) (replicate 9 0 ++ counters 567 9) (3 ∷ replicate 63 0) 17
     (accepted tt, 3 ∷ 6 ∷ 0 ∷ 0 ∷ 0 ∷ 0 ∷ 0 ∷ 0 ∷ 42 ∷ counters 567 9) ∷
     []

@@ -12,6 +12,7 @@ pub mod Acceptance
 pub mod Schedules
 pub mod SiteSchedules
 pub mod Near
+pub mod Former
 use Prim.Native.Nat.{ℕ, _+_, _≤_}
 use mathlib.Core.Path.{_≡_, refl, sym, _∙_, ap}
 use mathlib.Core.Bool.{Bool, true, false, cond, false≢true}
@@ -46,11 +47,13 @@ use Rattle.writer.proofs.Laws.{written-accepted}
 use Rattle.writer.proofs.Laws.Write.{plan-size, nodes-few, flows-few, fault-passed}
 use Rattle.plan.specs.Words.{InForm, FormFails}
 use Rattle.plan.specs.ScheduleWords.{ScheduleInForm, ScheduleFails}
+use Rattle.plan.specs.Former.{formerRead, FormerlyCarried, FormerlyPunctual}
 use Rattle.plan.proofs.Laws.Small.{plan-small, schedule-small}
 use Rattle.plan.proofs.Laws.Acceptance.{read-form, read-plan, plan-scheduled, read-judged, read-refused}
 use Rattle.plan.proofs.Laws.Refusals.{decode-fails}
 use Rattle.plan.proofs.Laws.Schedules.{without-listed, listed-without, schedule-why, schedule-form, schedule-read}
 use Rattle.plan.proofs.Laws.SiteSchedules.{site-listed}
+use Rattle.plan.proofs.Laws.Former.{former-form, still-carried, still-punctual}
 
 -- 01's demand 2. Bytes are read to a site just when they are in form and limits, under every parent with children some base fits, on every link
 -- the widths sum to at most the capacity, and for every flow the judged gaps sum to at most the deadline; the site is then these nodes
@@ -135,6 +138,18 @@ passes-when s = (
   ⊎-elim (λ e. rw e empty-passes)
       (λ v. let w = read-form (v .0) (v .1) s (v .2) in ap (λ (t : Site). passesOf t) (w .3) ∙ judged-passes (w .0) (w .1 .formed) (w .2)),
 )
+
+-- 02, U2. A reading as it was before, by the wanted gaps, in the words of `accepted-when`.
+pub formerly-accepted-when : (bytes : List ℕ) → Bytes bytes → (t : Site)
+    → (formerRead bytes ≡ accepted t) ↔ ((s : Site) × InForm bytes s × Served s × FormerlyCarried s × FormerlyPunctual s × (t ≡ scheduled s))
+formerly-accepted-when bytes small t = former-form bytes small t
+
+-- All plans accepted before remain so, and read to the same site.
+pub accepted-still : (bytes : List ℕ) → Bytes bytes → (t : Site) → formerRead bytes ≡ accepted t → readOf bytes ≡ accepted t
+accepted-still bytes small t e =
+    let w = former-form bytes small t .0 e in
+    let g = w .1 .formed in
+    accepted-when bytes small t .1 (w .0, w .1, w .2, still-carried (w .0) g (w .2) (w .3), still-punctual (w .0) g (w .2) (w .4), w .5)
 
 -- 02, U1. Schedule bytes are read to a schedule just when they are the LINKs of at least one link, all within their limits, and END.
 pub schedule-accepted-when : (bytes : List ℕ) → Bytes bytes → (s : Schedule) → (scheduleRead bytes ≡ accepted s) ↔ ScheduleInForm bytes s

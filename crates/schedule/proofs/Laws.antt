@@ -203,7 +203,7 @@ module _ (s : Site) (h : Timed s) where
         rw (period-at 2 (omega arith) (gapsUnder s p) some (rank s p i) (x .among), ← x .gap) (period-largest 2 (omega arith) _ _ some below .1),
       )
 
-  -- So G is at most the sum that 13 judges.
+  -- So G is at most the sum of the wanted gaps on the route.
   pub bound-within : (n : ℕ) → getD (s .entries) n 0 ≤ s .links → delayBound s n ≤ along (s .gaps) (routeOf s n)
   unfolding delayBound routeOf
   bound-within n a = along-rises _ _ _ (λ m e.

@@ -126,13 +126,13 @@ along-at hop [] k l = absurd (omega arith)
 along-at hop (m ∷ ms) zero l = refl
 along-at hop (m ∷ ms) (suc k) l = along-at hop ms k (omega arith)
 
--- By the site's own schedule, hop k of flow n is the link of node m, the route's number k: it sends just when m does, its width is the flow's rate for m's judged gap,
--- and its gap is m's period.
+-- By the site's own schedule, hop k of flow n is the link of node m, the route's number k: it sends just when m does, its gap is m's period, and its width is the flow's
+-- rate for just that gap (02, U2).
 pub hop-when : (s : Site) (n k m : ℕ) → k < length (routeOf s n) → getD (routeOf s n) k 0 ≡ m
     → ((t : ℕ) → (hopAt (hopsOf own s n) k .sends t ≡ true) ↔ SendsAt s m t)
-    × (hopAt (hopsOf own s n) k .width ≡ getD (s .rates) n 0 * ofLink (gapsJudged s) m)
     × (hopAt (hopsOf own s n) k .gap ≡ ofLink (s .periods) m)
-unfolding hopsOf widthAt
+    × (hopAt (hopsOf own s n) k .width ≡ getD (s .rates) n 0 * ofLink (s .periods) m)
+unfolding hopsOf widthAt gapsJudged
 hop-when s n k m l e =
     let at : hopAt (hopsOf own s n) k ≡ own s (getD (s .rates) n 0) m = along-at _ (routeOf s n) k l ∙ ap (own s (getD (s .rates) n 0)) e in
     (λ t. rw at (sends-in s m t), rw at, rw at)

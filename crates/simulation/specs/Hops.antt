@@ -12,7 +12,7 @@ use Rattle.queues.specs.Cells.{Hop}
 abbrev pub Service : Type 0
 Service = Site → ℕ → ℕ → Hop
 
--- By the site's own schedule: slot rule 6, the width of 'Reservations', and the period.
+-- By the site's own schedule: slot rule 6, the width of 'Reservations' (rate × period from 02, U2, on), and the period.
 abbrev pub own : Service
 own s rate node = record { sends = linkSends s node; width = widthAt (gapsJudged s) rate node; gap = ofLink (s .periods) node }
 

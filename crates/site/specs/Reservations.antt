@@ -1,4 +1,4 @@
--- 01, Reservations: what live flows keep on the links of their routes.
+-- 01, Reservations, and 02, U2: what live flows keep on the links of their routes.
 use Prim.Native.Nat.{ℕ, zero, suc, _+_, _*_}
 use mathlib.Core.Bool.{Bool, cond, _&&_}
 use mathlib.Core.List.{List, [], _∷_}
@@ -9,15 +9,15 @@ use Rattle.site.specs.declared.Site.{Site}
 use Rattle.site.specs.Sites.{used, ofLink, live}
 use Rattle.site.specs.Tree.{route, has}
 
--- The gaps that widths and the sums of 12, 13, 17 and 18 go by: the wanted gaps. Request U2 makes them the periods.
+-- 02, U2: widths and the sums of 12, 13, 17 and 18 go by the gaps actually served, which are the periods.
 unfoldable pub gapsJudged : Site → List ℕ
-gapsJudged s = s .gaps
+gapsJudged s = s .periods
 
 -- The route of the flow with number n.
 unfoldable pub routeOf : Site → ℕ → List ℕ
 routeOf s n = route (s .parents) (getD (s .entries) n 0)
 
--- 01, Reservations: the width on the link of node m, rate × judged gap, of a flow with this rate.
+-- 01, Reservations, and 02, U2: the width on the link of node m, rate × judged gap, of a flow with this rate.
 unfoldable pub widthAt : List ℕ → ℕ → ℕ → ℕ
 widthAt gaps rate m = rate * ofLink gaps m
 

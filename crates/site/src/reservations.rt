@@ -11,11 +11,11 @@ ghost use Rattle.site.specs.Tree.{route};
 ghost use Rattle.site.specs.Reservations.{gapsJudged, firstOver, firstUnfit, along, firstLate, delayBound};
 ghost use Rattle.site.specs.Inner.{carried, Loads};
 
-// The gaps that widths and the sums of 12, 13, 17 and 18 go by: the wanted gaps.
+// 02, U2: widths and the sums of 12, 13, 17 and 18 go by the periods.
 pub fn gaps_judged(site: Site) -> [u16; 63]
     ensures { λ r. ⌜ r ≡ gapsJudged site ⌝ }
 {
-    site.gaps
+    site.periods
 }
 
 // The sum of the values of the links from the node up to the root.

@@ -10,7 +10,7 @@ use native.Mathlib.Omega.{arith}
 use Rattle.site.specs.declared.Site.{Site}
 use Rattle.site.specs.Sites.{ofLink, live, withFlow, withoutFlow}
 use Rattle.site.specs.Tree.{has}
-use Rattle.site.specs.Reservations.{gapsJudged, routeOf, widthAt, widthOn, load}
+use Rattle.site.specs.Reservations.{gapsJudged, routeOf, widthAt, widthOn, load, delayBound}
 use Rattle.site.specs.Words.{RoomAlong}
 use Rattle.site.proofs.Laws.Tree.{has-when, route-within}
 use Rattle.site.proofs.Laws.Reservations.{width-live, live-here, load-taken}
@@ -45,11 +45,11 @@ module _ (s : Site) (w : Sound s) (n : ℕ) (l : live s n ≡ true) where
       )
 
   again-room : RoomAlong (withoutFlow s n) (flowOf s n .rate) (routeFor (withoutFlow s n) (flowOf s n))
-  unfolding withoutFlow flowOf routeOf gapsJudged
+  unfolding withoutFlow flowOf routeOf gapsJudged widthAt
   again-room = record { each = λ j h. again-fits _ (has-when _ (routeOf s n) .1 (j, h, refl)) }
 
   pub again-admissible : (counters : List ℕ) → length counters ≡ 576 → Admissible (withoutFlow s n) counters (flowOf s n)
-  unfolding withoutFlow flowOf routeOf gapsJudged
+  unfolding withoutFlow flowOf routeOf delayBound
   again-admissible counters long = record {
     counted = long;
     sound = sound-without s w n;

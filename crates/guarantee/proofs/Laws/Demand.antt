@@ -170,13 +170,13 @@ unfolding hopsAlong span along
 span-along s rate [] = refl
 span-along s rate (m ∷ ms) = ap (λ (k : ℕ). ofLink (s .periods) m + k) (span-along s rate ms)
 
--- Its links serve every live flow: each sends once in a period, and the flow's width is its rate for the judged gap, which is no shorter.
+-- Its links serve every live flow: each sends once in a period, and the flow's width is just its rate for a period.
 module _ (s : Site) (e : passesOf s ≡ true) where
   link-serves : (rate n : ℕ) → 1 ≤ n → n ≤ s .links → Serves rate (own s rate n)
   unfolding widthAt gapsJudged
   link-serves rate n a b = record {
     often = λ start. let t = link-once s e n start a b in (t .0, t .1, t .2, t .3);
-    wide = mul-le-mul-left rate (period-within s e n a b .1);
+    wide = omega arith;
   }
 
   route-serves : (rate : ℕ) {n : ℕ} {ms : List ℕ} → Leads (s .parents) n ms → n ≤ s .links → All (Serves rate) (hopsAlong (own s rate) ms)

@@ -14,7 +14,7 @@ use Rattle.site.specs.declared.Flow.{Flow}
 use Rattle.site.specs.Sites.{ofLink, live, withFields, withFlow, withoutFlow, withSchedule}
 use Rattle.site.specs.Tree.{up, route, has}
 use Rattle.schedule.specs.Schedule.{gapsUnder, rank, dealtUnder, entryDealt, offsetsDealt, periodsDealt, scheduled}
-use Rattle.site.specs.Reservations.{gapsJudged, routeOf, widthAt, load, along}
+use Rattle.site.specs.Reservations.{gapsJudged, routeOf, widthAt, load, along, delayBound}
 use Rattle.site.proofs.Laws.Tree.{up-in, depth-up, depth-route, route-root}
 use Rattle.site.proofs.Laws.Reservations.{load-with, load-without}
 use Rattle.site.specs.Words.{Punctual}
@@ -99,7 +99,7 @@ module _ (s : Site) (w : Sound s) (n state entry rate deadline : ℕ) where
   served-kept = record { fit = w .served .fit }
 
   punctual-kept : along (gapsJudged s) (route (s .parents) entry) ≤ deadline → Punctual (withFields s n state entry rate deadline)
-  unfolding live routeOf gapsJudged
+  unfolding live routeOf gapsJudged delayBound
   punctual-kept time = record {
     within =
         λ k l e. elim (ℕ-discrete k n) [

@@ -24,7 +24,7 @@ use Rattle.plan.proofs.Laws.FromSites.{zeros, begun-read}
 use Rattle.plan.proofs.Laws.Refusals.{decode-form, decode-fails, form-numbers}
 
 -- The bytes of nodes and flows in form are read to them.
-decode-plan : (s : Site) → Formed s → 1 ≤ s .links → decode (planBytes s) ≡ accepted (withSchedule s zeros zeros)
+pub decode-plan : (s : Site) → Formed s → 1 ≤ s .links → decode (planBytes s) ≡ accepted (withSchedule s zeros zeros)
 unfolding planBytes withSchedule
 decode-plan s g some =
     let at = length (commandBytes s) in

@@ -68,7 +68,7 @@ loop-again c = let here = rw (c .before .before .before .before .before .before 
 returns : tie.Need-returns Inv-loop μ-loop
 unfolding gapsJudged
 returns c = let site = c .before .before .before .before .args .t1 in
-    let long : length (site .gaps) ≡ 63 = search needs in
+    let long : length (site .periods) ≡ 63 = search needs in
     sending-end _ _ _ _ (c .before .loop .inv) (rw (c .before .before .link-count .ensures) at (c .loop-test .left)) long
 
 pub gaps-sending-spec : {M : Type 1} → statement M

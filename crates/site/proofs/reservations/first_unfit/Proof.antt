@@ -44,8 +44,8 @@ loaded c = walk c .before .reserved-of .ensures .0 .each _ (within c)
 rate-le : (s : tie.Start Inv-loop μ-loop) (i : ℕ) → getD (s .args .t1 .rates) i 0 ≤ 255
 rate-le s i = let f : Fits w8 (getD (s .args .t1 .rates) i 0) = search needs in omega (arith, f .fits)
 
-gap-le : (s : tie.Start Inv-loop μ-loop) (i : ℕ) → getD (s .args .t1 .gaps) i 0 ≤ 65535
-gap-le s i = let f : Fits w16 (getD (s .args .t1 .gaps) i 0) = search needs in omega (arith, f .fits)
+gap-le : (s : tie.Start Inv-loop μ-loop) (i : ℕ) → getD (s .args .t1 .periods) i 0 ≤ 65535
+gap-le s i = let f : Fits w16 (getD (s .args .t1 .periods) i 0) = search needs in omega (arith, f .fits)
 
 capacity-fits : (s : tie.Start Inv-loop μ-loop) (i : ℕ) → getD (s .args .t1 .capacities) i 0 < 4294967296
 capacity-fits s i = let f : Fits w16 (getD (s .args .t1 .capacities) i 0) = search needs in omega (arith, f .fits)

@@ -1,4 +1,4 @@
--- Right because the judged gaps are the wanted ones.
+-- Right because the judged gaps are the periods.
 use mathlib.Core.Path.{refl}
 use Rattle.site.specs.Reservations.{gapsJudged}
 use Rattle.site.proofs.reservations.gaps_judged.Statement.{statement}

@@ -53,7 +53,7 @@ add-widths-requires c κs =
     let long : length (site .parents) ≡ 63 = search needs in (
       judging .long ∙ sym long,
       judging-le _ _ _ _ judging (λ i. let f : Fits w8 (getD (site .rates) i 0) = search needs in omega arith)
-          (λ i. let f : Fits w16 (getD (site .gaps) i 0) = search needs in omega arith),
+          (λ i. let f : Fits w16 (getD (site .periods) i 0) = search needs in omega arith),
     )
 
 mul-if2 : tie.Need-mul-if2 Inv-loop μ-loop

@@ -1,0 +1,38 @@
+-- 02, U2, accepts more than was accepted before: a plan that 12 refused by wanted gaps, and one that 13 did.
+use Prim.Native.Nat.{ℕ, zero, suc, _<_}
+use mathlib.Core.Path.{_≡_, refl}
+use mathlib.Core.List.{List, [], _∷_}
+use native.Mathlib.Omega.{arith}
+use Rattle.pinwheel.specs.Outcome.{accepted, refused, orElse}
+use Rattle.pinwheel.specs.Search.{last, first, any, total, largest, least, smallest}
+use Rattle.pinwheel.specs.Rule.{exponent, period, sum, limit, fits, base, periodsOf}
+use Rattle.pinwheel.specs.Rule.{sends, earlier, taken, freeOffset, turn, level, levels, offsetsFor, offsetsOf}
+use Rattle.pinwheel.specs.Deal.{badGap, firstBad, dealt}
+use Rattle.pinwheel.proofs.Laws.Outcomes.{refused-not}
+use Rattle.site.specs.declared.Site.{Site}
+use Rattle.site.specs.Sites.{used, ofLink, live, withFlow, withSchedule}
+use Rattle.site.specs.Tree.{up, depthIn, depthOf, climb, route, has}
+use Rattle.site.specs.Reservations.{gapsJudged, routeOf, widthAt, widthOn, sumTo, load, over, firstOver, along, late, firstLate}
+use Rattle.schedule.specs.Schedule.{gapsFrom, gapsUnder, rank, dealtUnder, baseOf, baseUnder, crowded, firstCrowded}
+use Rattle.schedule.specs.Schedule.{entryDealt, listed, offsetsDealt, periodsDealt, scheduled}
+use Rattle.schedule.specs.Judge.{withSite, reserved, judgeOf}
+use Rattle.limits.specs.Limits.{badNode, badFlow, nodeLimits, misplaced, flowLimits}
+use Rattle.format.specs.Commands.{sizeOf}
+use Rattle.format.specs.Bytes.{numberAt}
+use Rattle.format.specs.Reading.{faultOf, ended, readFrom}
+use Rattle.format.specs.Words.{Bytes}
+use Rattle.reader.specs.Read.{nodeAt, flowAt, nodeFault, flowFault, laterFault, withNode, nodeAdded, flowAdded, after, decode, judgeForm, readOf}
+use Rattle.plan.specs.Former.{formerWidth, formerLoad, formerOver, firstFormerOver, formerLate, firstFormerLate, formerReserved, formerJudgeOf, formerForm, formerRead}
+use Rattle.queues.specs.Pace.{All}
+use Rattle.witness.specs.Plans.{lanes}
+
+-- What the definitions give, by computing: refused before, accepted now.
+pub record LanesRead : Type 0 where
+  pub full : formerRead (lanes 4) ≡ refused 12 2
+  pub late : formerRead (lanes 3) ≡ refused 13 5
+  pub wide : withSite (readOf (lanes 4)) .0 ≡ accepted tt
+  pub slow : withSite (readOf (lanes 3)) .0 ≡ accepted tt
+
+pub lanes-read : LanesRead
+unfolding last first any total largest least smallest exponent period sum limit fits base periodsOf sends earlier taken freeOffset turn level levels offsetsFor offsetsOf badGap firstBad dealt ofLink live withFlow withSchedule up depthIn depthOf climb route has used gapsFrom gapsUnder rank dealtUnder baseOf baseUnder crowded firstCrowded entryDealt listed offsetsDealt periodsDealt scheduled gapsJudged routeOf widthAt widthOn sumTo load over firstOver along late firstLate orElse withSite reserved judgeOf numberAt nodeAt flowAt badNode badFlow nodeLimits misplaced flowLimits nodeFault flowFault laterFault sizeOf faultOf ended readFrom withNode nodeAdded flowAdded after decode judgeForm readOf formerWidth formerLoad formerOver firstFormerOver formerLate firstFormerLate formerReserved formerJudgeOf formerForm formerRead
+lanes-read = record { full = refl; late = refl; wide = refl; slow = refl }
