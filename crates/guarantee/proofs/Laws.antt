@@ -7,6 +7,7 @@ pub mod Reach
 use Prim.Native.Nat.{ℕ, zero, suc, _+_, _-_, _≤_}
 use mathlib.Core.Path.{_≡_, refl, sym, _∙_, ap}
 use mathlib.Core.Bool.{true}
+use mathlib.Core.Logic.{_↔_}
 use mathlib.Core.List.{List, [], _∷_, _++_, map}
 use lib.ListN.{length, drop}
 use native.Mathlib.Omega.{arith}
@@ -15,8 +16,9 @@ use Rattle.pinwheel.specs.Search.{total}
 use Rattle.pinwheel.proofs.Laws.Outcomes.{refused-not}
 use Rattle.site.specs.declared.Site.{Site}
 use Rattle.site.specs.declared.Flow.{Flow}
-use Rattle.site.specs.Sites.{live, withoutFlow}
+use Rattle.site.specs.Sites.{live, withFlow, withoutFlow}
 use Rattle.site.specs.Reservations.{routeOf, delayBound}
+use Rattle.site.specs.Words.{OnTime}
 use Rattle.site.proofs.Laws.Reservations.{live-with}
 use Rattle.limits.specs.Check.{flowOf, passesOf}
 use Rattle.limits.proofs.Laws.{passes-sound, flow-taken, bound-within}
@@ -31,12 +33,13 @@ use Rattle.plan.proofs.Laws as plan
 use Rattle.reader.specs.Read.{readOf}
 use Rattle.writer.specs.Write.{flowBytes, flowIfLive, planBytes}
 use Rattle.admission.specs.Calls.{admitOf, releaseOf}
-use Rattle.admission.proofs.Laws.{admit-accepted, admit-refused, release-accepted, release-refused, cells-after, admitted-passes}
+use Rattle.admission.specs.Words.{boundFor}
+use Rattle.admission.proofs.Laws.{admit-accepted, admit-refused, release-accepted, release-refused, bound-asked, cells-after, admitted-passes}
 use Rattle.simulation.specs.Hops.{Service, own, hopsOf}
 use Rattle.simulation.specs.Slot.{recounted, slotOf, startRuling, startOf}
 use Rattle.simulation.proofs.Laws.{slot-accepted, slot-refused, slot-cells, start-accepted, start-refused, start-cells, starts-when}
 use Rattle.guarantee.specs.Runs.{Call, slot, admit, release, start, State, Promise, called, checksOf, Log, Run, none, then, admissions}
-use Rattle.guarantee.specs.Demand.{entered, slotsOf, Stays, NoStart, rateOf, boundOf, Begins, Allowed, Answered, Kept, newest}
+use Rattle.guarantee.specs.Demand.{entered, slotsOf, Stays, NoStart, rateOf, deadlineOf, boundOf, Begins, Allowed, Answered, Kept, newest}
 use Rattle.guarantee.specs.Words.{Exchanged, bytesBefore, bytesBehind, nodesAlone}
 use Rattle.guarantee.proofs.Laws.Demand.{followed, demand3-any, own-steady, span-along, own-few, own-serves, own-some, own-short}
 use Rattle.guarantee.proofs.Laws.Bytes.{plan-parts, plan-without}
@@ -71,6 +74,14 @@ bound-is s f = span-along s (rateOf s f) (routeOf s f)
 
 pub bound-some : (s : Site) → passesOf s ≡ true → (f : ℕ) → live s f ≡ true → 1 ≤ boundOf own s f
 bound-some s e f l = span-some (rateOf s f) (hopsOf own s f) (own-some s e f l) (own-serves s e f l)
+
+-- 02, U2: G is the number judged. 13 asks of a live flow just what demand 3 says of its deadline; and what 18 compares with the deadline of a flow that is to come is its G
+-- once it is live.
+pub judged-13 : (s : Site) (f : ℕ) → OnTime s f ↔ (boundOf own s f ≤ deadlineOf s f)
+judged-13 s f = (λ h. rw bound-is h, λ h. rw bound-is at h)
+
+pub judged-18 : (s : Site) → passesOf s ≡ true → (g : Flow) → g .number ≤ 63 → boundFor s g ≡ boundOf own (withFlow s g) (g .number)
+judged-18 s e g few = sym (bound-is (withFlow s g) (g .number) ∙ bound-asked s e g few)
 
 -- Demand 3: for every list of calls, refused ones included, that begins where a live flow's nine cells are 0, and of which 01's premises hold, all that 01 claims.
 pub demand3 : (f : ℕ) (σ₀ : State) (l : Log) (σ : State) (run : Run own σ₀ l σ) → Begins f σ₀ → Allowed f (σ₀ .site) l → Kept own f σ₀ l σ run
@@ -147,6 +158,11 @@ start-begins v σ σ′ f on p =
       living = rw (p .1) on;
       empty = rw (a .2) (start-cells f (live-few (σ .site) (a .1 .formed) f on));
     }
+
+-- So whatever let a flow in, from its accepted admission on each of its packets is through within G, and the rest of demand 3 holds.
+pub admitted-kept : (σ σ₀ : State) (g : Flow) → Promise own (admit g) σ (accepted tt) σ₀
+    → (l : Log) (σ′ : State) (run : Run own σ₀ l σ′) → Allowed (g .number) (σ₀ .site) l → Kept own (g .number) σ₀ l σ′ run
+admitted-kept σ σ₀ g p l σ′ run d = demand3 (g .number) σ₀ l σ′ run (admission-begins own σ σ₀ g p) d
 
 -- Every call has an answer and leaves a state, and so every list of calls, newest first, has a run.
 pub promised : (v : Service) (c : Call) (σ : State) → Promise v c σ (called v c σ .0) (called v c σ .1)

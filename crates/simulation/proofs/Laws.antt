@@ -137,6 +137,11 @@ hop-when s n k m l e =
     let at : hopAt (hopsOf own s n) k ≡ own s (getD (s .rates) n 0) m = along-at _ (routeOf s n) k l ∙ ap (own s (getD (s .rates) n 0)) e in
     (λ t. rw at (sends-in s m t), rw at, rw at)
 
+-- 02, U2: the width is what the rate brings in the hop's gap, no less and no more.
+pub width-exact : (s : Site) (rate node : ℕ) → own s rate node .width ≡ rate * own s rate node .gap
+unfolding widthAt gapsJudged
+width-exact s rate node = refl
+
 -- The tests of 19 and 20 in words.
 overflows-when : (s : Site) (cs xs : List ℕ) (n : ℕ) → (overflows s cs xs n ≡ true) ↔ Overflows s cs xs n
 unfolding overflows

@@ -23,11 +23,11 @@ use Rattle.queues.specs.Pace.{All, Rising, Within}
 use Rattle.admission.specs.Calls.{change, flowRuling, admitRuling, admitOf, numberRuling, releaseRuling, releaseOf}
 use Rattle.simulation.specs.Hops.{own, hopsAlong, hopsOf}
 use Rattle.simulation.specs.Slot.{recounted, overflows, firstOverflow, unexpected, firstUnexpected, arrivalsRuling, slotRuling, cellsAfter, slotOf, startRuling, startOf}
-use Rattle.guarantee.specs.Runs.{Call, slot, State, called, Log, Run, none, then}
+use Rattle.guarantee.specs.Runs.{Call, slot, admit, State, Promise, called, Log, Run, none, then}
 use Rattle.guarantee.specs.Demand.{entered, slotsOf, Stays, NoStart, rateOf, boundOf, Begins, Allowed, WaitsJoined, Waits, Kept}
-use Rattle.guarantee.proofs.Laws.{demand3, promised}
+use Rattle.guarantee.proofs.Laws.{demand3, promised, admitted-kept}
 use Rattle.marked.specs.Table.{readP}
-use Rattle.witness.specs.Lists.{played, stateP, arrivalsP, acceptedFrom, mixed, admitted, half, mixedLog, sixteen, lone, loneLog}
+use Rattle.witness.specs.Lists.{played, stateP, arrivalsP, acceptedFrom, flowFive, mixed, admitted, half, mixedLog, sixteen, lone, loneLog, stateFive, paced, pacedLog}
 
 -- What is played is a run.
 pub played-run : (σ₀ : State) (cs : List Call) (l : Log) (σ : State) → Run own σ₀ l σ → Run own σ₀ (played cs l σ .0) (played cs l σ .1)
@@ -74,21 +74,21 @@ pub sixteen-played : SixteenPlayed
 unfolding called played stateP moved arrived delivering passed step hopsAlong hopsOf cellsOf linkSends recounted overflows firstOverflow unexpected firstUnexpected arrivalsRuling slotRuling cellsAfter slotOf startRuling startOf checked settled block withBlock withCells zeros unfit firstUnfit callFault change flowRuling admitRuling admitOf numberRuling releaseRuling releaseOf last first any total largest least smallest exponent period sum limit fits base periodsOf sends earlier taken freeOffset turn level levels offsetsFor offsetsOf badGap firstBad dealt ofLink live withFlow withoutFlow withSchedule up depthIn depthOf climb route has used gapsFrom gapsUnder rank dealtUnder baseOf baseUnder crowded firstCrowded entryDealt listed offsetsDealt periodsDealt scheduled gapsJudged routeOf widthAt widthOn sumTo load over firstOver along late firstLate reserved judgeOf badNode badFlow nodeLimits misplaced flowLimits joined shaped nodeOf flowOf illNode illFlow firstIllNode firstIllFlow formed same accepts stands passesOf waiting
 sixteen-played = record { log = refl; next = refl; wait = refl }
 
--- Flow 0 stays admitted and no rehearsal starts anew in this log; and so in one with accepted slots on top.
-abbrev Calm : Log → Type 0
-Calm l = All (Stays 0) l × All NoStart l
+-- Flow f stays admitted and no rehearsal starts anew in this log; and so in one with accepted slots on top.
+abbrev Calm : ℕ → Log → Type 0
+Calm f l = All (Stays f) l × All NoStart l
 
-calm-slots : (n t : ℕ) (xs : List ℕ) (l : Log) → Calm l → Calm (acceptedFrom n t xs l)
+calm-slots : (f n t : ℕ) (xs : List ℕ) (l : Log) → Calm f l → Calm f (acceptedFrom n t xs l)
 unfolding All Stays NoStart
-calm-slots zero t xs l w = w
-calm-slots (suc n) t xs l w = let more = calm-slots n t xs l w in ((tt, more .0), (tt, more .1))
+calm-slots f zero t xs l w = w
+calm-slots f (suc n) t xs l w = let more = calm-slots f n t xs l w in ((tt, more .0), (tt, more .1))
 
 -- All premises hold of the mixed list ..
 mixed-allowed : Allowed 0 readP mixedLog
 unfolding All Rising slotsOf entered Stays NoStart
 mixed-allowed =
-    let early = calm-slots 9 0 (arrivalsP 3 40) admitted ((tt, (tt, tt)), (tt, (tt, tt))) in
-    let late = calm-slots 8 9 (arrivalsP 3 0) half ((tt, early .0), (tt, early .1)) in
+    let early = calm-slots 0 9 0 (arrivalsP 3 40) admitted ((tt, (tt, tt)), (tt, (tt, tt))) in
+    let late = calm-slots 0 8 9 (arrivalsP 3 0) half ((tt, early .0), (tt, early .1)) in
     record { stays = (λ e. omega arith, late .0); unbroken = (tt, late .1); rising = omega arith; rated = omega arith }
 
 -- .. and so all of demand 3. Of 51 arrivals it asks for 33 delivered, and 42 are.
@@ -103,7 +103,7 @@ mixed-asked = rw bound-p
 lone-allowed : (n : ℕ) → Rising (slotsOf 0 (loneLog n)) → Within 3 (slotsOf 0 (loneLog n)) → Allowed 0 readP (loneLog n)
 unfolding All
 lone-allowed n r w =
-    let calm = calm-slots n 11 (arrivalsP 0 0) _ (calm-slots 1 10 (arrivalsP 1 0) [] (tt, tt)) in
+    let calm = calm-slots 0 n 11 (arrivalsP 0 0) _ (calm-slots 0 1 10 (arrivalsP 1 0) [] (tt, tt)) in
     record { stays = calm .0; unbroken = calm .1; rising = r; rated = w }
 
 -- Demand 3 itself says that the lone packet has left after slot 16: its claim is no weaker than 01's.
@@ -124,7 +124,7 @@ delay-tight claim =
 seventeen-allowed : Allowed 0 readP (acceptedFrom 17 0 (arrivalsP 3 0) [])
 unfolding All Rising slotsOf entered
 seventeen-allowed =
-    let calm = calm-slots 17 0 (arrivalsP 3 0) [] (tt, tt) in record { stays = calm .0; unbroken = calm .1; rising = omega arith; rated = omega arith }
+    let calm = calm-slots 0 17 0 (arrivalsP 3 0) [] (tt, tt) in record { stays = calm .0; unbroken = calm .1; rising = omega arith; rated = omega arith }
 
 -- The seventeen slots, as a run whose newest call is slot 16.
 seventeen : Run own stateP ((slot 16 (arrivalsP 3 0), accepted tt) ∷ played sixteen [] stateP .0) (called own (slot 16 (arrivalsP 3 0)) (played sixteen [] stateP .1) .1)
@@ -146,3 +146,29 @@ unfolding stateP Waits WaitsJoined seventeen
 waiting-tight claim =
     let w = claim 0 stateP _ _ seventeen begins-p (rw (sixteen-played .log) seventeen-allowed) in
     omega (arith, sixteen-played .wait, rw bound-p at (w .1))
+
+-- Flow 5, which 02, U2, lets in, meets both bounds too. After its slots 2 to 4 nothing is delivered; in slot 5, when its arrivals have joined, 16 = rate × G wait, and all of
+-- them leave in that slot: link 2's width is just so many.
+pub record FivePlayed : Type 0 where
+  pub answer : called own (admit flowFive) stateP ≡ (accepted tt, stateFive)
+  pub rate : rateOf (stateFive .site) 5 ≡ 4
+  pub bound : boundOf own (stateFive .site) 5 ≡ 4
+  pub log : played (paced 3) [] stateFive .0 ≡ pacedLog 3
+  pub later : played (paced 4) [] stateFive .0 ≡ pacedLog 4
+  pub waits : cellsOf 5 (played (paced 3) [] stateFive .1 .counters) ≡ 12 ∷ 0 ∷ 0 ∷ 0 ∷ 0 ∷ 0 ∷ 0 ∷ 0 ∷ 0 ∷ []
+  pub leaves : cellsOf 5 (played (paced 4) [] stateFive .1 .counters) ≡ 0 ∷ 0 ∷ 0 ∷ 0 ∷ 0 ∷ 0 ∷ 0 ∷ 0 ∷ 16 ∷ []
+
+pub five-played : FivePlayed
+unfolding called played stateP stateFive moved arrived delivering passed step hopsAlong hopsOf cellsOf linkSends recounted overflows firstOverflow unexpected firstUnexpected arrivalsRuling slotRuling cellsAfter slotOf startRuling startOf checked settled block withBlock withCells zeros unfit firstUnfit callFault change flowRuling admitRuling admitOf numberRuling releaseRuling releaseOf last first any total largest least smallest exponent period sum limit fits base periodsOf sends earlier taken freeOffset turn level levels offsetsFor offsetsOf badGap firstBad dealt ofLink live withFlow withoutFlow withSchedule up depthIn depthOf climb route has used gapsFrom gapsUnder rank dealtUnder baseOf baseUnder crowded firstCrowded entryDealt listed offsetsDealt periodsDealt scheduled gapsJudged routeOf widthAt widthOn sumTo load over firstOver along late firstLate reserved judgeOf badNode badFlow nodeLimits misplaced flowLimits joined shaped nodeOf flowOf illNode illFlow firstIllNode firstIllFlow formed same accepts stands passesOf span
+five-played = record { answer = refl; rate = refl; bound = refl; log = refl; later = refl; waits = refl; leaves = refl }
+
+-- All of demand 3 holds of it from its admission on.
+pub five-kept : Kept own 5 stateFive (played (paced 4) [] stateFive .0) (played (paced 4) [] stateFive .1) (played-run stateFive (paced 4) [] stateFive none)
+unfolding All Rising slotsOf entered
+five-kept =
+    let calm = calm-slots 5 4 2 (arrivalsP 0 4) [] (tt, tt) in
+    admitted-kept stateP stateFive flowFive admitted-five _ _ (played-run stateFive (paced 4) [] stateFive none)
+    (rw (five-played .later) (record { stays = calm .0; unbroken = calm .1; rising = omega arith; rated = rw (five-played .rate) (omega arith) }))
+  where
+    admitted-five : Promise own (admit flowFive) stateP (accepted tt) stateFive
+    admitted-five = rw (five-played .answer) at (promised own (admit flowFive) stateP)

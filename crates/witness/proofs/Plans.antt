@@ -30,9 +30,21 @@ use Rattle.witness.specs.Plans.{lanes}
 pub record LanesRead : Type 0 where
   pub full : formerRead (lanes 4) ≡ refused 12 2
   pub late : formerRead (lanes 3) ≡ refused 13 5
-  pub wide : withSite (readOf (lanes 4)) .0 ≡ accepted tt
-  pub slow : withSite (readOf (lanes 3)) .0 ≡ accepted tt
+  pub fits : (t : Site) × (readOf (lanes 4) ≡ accepted t)
+  pub punctual : (t : Site) × (readOf (lanes 3) ≡ accepted t)
 
 pub lanes-read : LanesRead
 unfolding last first any total largest least smallest exponent period sum limit fits base periodsOf sends earlier taken freeOffset turn level levels offsetsFor offsetsOf badGap firstBad dealt ofLink live withFlow withSchedule up depthIn depthOf climb route has used gapsFrom gapsUnder rank dealtUnder baseOf baseUnder crowded firstCrowded entryDealt listed offsetsDealt periodsDealt scheduled gapsJudged routeOf widthAt widthOn sumTo load over firstOver along late firstLate orElse withSite reserved judgeOf numberAt nodeAt flowAt badNode badFlow nodeLimits misplaced flowLimits nodeFault flowFault laterFault sizeOf faultOf ended readFrom withNode nodeAdded flowAdded after decode judgeForm readOf formerWidth formerLoad formerOver firstFormerOver formerLate firstFormerLate formerReserved formerJudgeOf formerForm formerRead
-lanes-read = record { full = refl; late = refl; wide = refl; slow = refl }
+lanes-read = record { full = refl; late = refl; fits = (withSite (readOf (lanes 4)) .1, refl); punctual = (withSite (readOf (lanes 3)) .1, refl) }
+
+all-bytes : (xs : List ℕ) → All (λ (x : ℕ). x < 256) xs → Bytes xs
+unfolding All
+all-bytes [] w i = omega arith
+all-bytes (x ∷ xs) w zero = w .0
+all-bytes (x ∷ xs) w (suc i) = all-bytes xs (w .1) i
+
+-- So it is false that every plan that is accepted was accepted before: the reverse of `accepted-still` fails.
+pub reverse-fails : ((bytes : List ℕ) → Bytes bytes → (t : Site) → readOf bytes ≡ accepted t → formerRead bytes ≡ accepted t) → ⊥
+unfolding All
+reverse-fails claim =
+    let now = lanes-read .fits in refused-not _ (lanes-read .full) (claim (lanes 4) (all-bytes (lanes 4) (omega arith)) (now .0) (now .1))

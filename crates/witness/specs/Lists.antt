@@ -30,8 +30,9 @@ abbrev pub acceptedFrom : ℕ → ℕ → List ℕ → Log → Log
 acceptedFrom zero t xs l = l
 acceptedFrom (suc n) t xs l = (slot (t + n) xs, accepted tt) ∷ acceptedFrom n t xs l
 
+-- 02, U2, lets this flow in: on link 2 its width is 16 of 20 by the period, 4, and was 24 by the wanted gap, 6; G is 4.
 abbrev pub flowFive : Flow
-flowFive = record { number = 5; entry = 2; rate = 3; deadline = 6 }
+flowFive = record { number = 5; entry = 2; rate = 4; deadline = 5 }
 
 -- Flow 5 is admitted, and refused when it comes again; nine slots, in which it gets more than its rate; a slot with 63 arrivals, of any number, is refused; eight
 -- slots more, the last of number 16; flow 5 is released. In every slot flow 0 gets its rate.
@@ -60,3 +61,14 @@ lone n = slot 10 (arrivalsP 1 0) ∷ slotsFrom n 11 (arrivalsP 0 0)
 
 abbrev pub loneLog : ℕ → Log
 loneLog n = acceptedFrom n 11 (arrivalsP 0 0) (acceptedFrom 1 10 (arrivalsP 1 0) [])
+
+-- Plan P with flow 5 just admitted.
+unfoldable pub stateFive : State
+stateFive = called own (admit flowFive) stateP .1
+
+-- n slots from number 2 on in which flow 5 gets its rate. Link 2 sends in slot 5 for the first time.
+abbrev pub paced : ℕ → List Call
+paced n = slotsFrom n 2 (arrivalsP 0 4)
+
+abbrev pub pacedLog : ℕ → Log
+pacedLog n = acceptedFrom n 2 (arrivalsP 0 4) []

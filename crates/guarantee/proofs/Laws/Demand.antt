@@ -10,11 +10,11 @@ use Rattle.pinwheel.specs.Outcome.{Ruling, accepted, refused, Ruled, nothing}
 use Rattle.pinwheel.specs.Search.{total}
 use Rattle.site.specs.declared.Site.{Site}
 use Rattle.site.specs.Sites.{live, ofLink}
-use Rattle.site.specs.Reservations.{gapsJudged, widthAt, along}
+use Rattle.site.specs.Reservations.{gapsJudged, along}
 use Rattle.site.specs.Words.{Leads, root, link}
 use Rattle.schedule.specs.Schedule.{linkSends}
 use Rattle.limits.specs.Check.{passesOf, flowOf}
-use Rattle.limits.proofs.Laws.{passes-sound, link-once, period-within, route-whole}
+use Rattle.limits.proofs.Laws.{passes-sound, link-once, route-whole}
 use Rattle.limits.proofs.Laws.Flows.{live-few, live-fits}
 use Rattle.counters.specs.Blocks.{cellsOf, zeros}
 use Rattle.queues.specs.Cells.{Hop, Entry, steps, waiting, arrivals, span}
@@ -24,7 +24,7 @@ use Rattle.admission.specs.Calls.{change, admitOf, releaseOf}
 use Rattle.admission.proofs.Laws.{admits-first, releases-first}
 use Rattle.simulation.specs.Hops.{Service, own, hopsAlong, hopsOf}
 use Rattle.simulation.specs.Slot.{recounted, slotOf, startOf}
-use Rattle.simulation.proofs.Laws.{length-along, slots-first, starts-first}
+use Rattle.simulation.proofs.Laws.{length-along, width-exact, slots-first, starts-first}
 use Rattle.guarantee.specs.Runs.{Call, slot, admit, release, start, State, Promise, checksOf, Log, Run, none, then}
 use Rattle.guarantee.specs.Demand.{entered, slotsOf, Stays, NoStart, rateOf, deadlineOf, boundOf, Begins, Allowed}
 use Rattle.guarantee.specs.Demand.{Answered, WaitsJoined, Waits, Kept}
@@ -173,10 +173,9 @@ span-along s rate (m ∷ ms) = ap (λ (k : ℕ). ofLink (s .periods) m + k) (spa
 -- Its links serve every live flow: each sends once in a period, and the flow's width is just its rate for a period.
 module _ (s : Site) (e : passesOf s ≡ true) where
   link-serves : (rate n : ℕ) → 1 ≤ n → n ≤ s .links → Serves rate (own s rate n)
-  unfolding widthAt gapsJudged
   link-serves rate n a b = record {
     often = λ start. let t = link-once s e n start a b in (t .0, t .1, t .2, t .3);
-    wide = omega arith;
+    wide = omega (arith, width-exact s rate n);
   }
 
   route-serves : (rate : ℕ) {n : ℕ} {ms : List ℕ} → Leads (s .parents) n ms → n ≤ s .links → All (Serves rate) (hopsAlong (own s rate) ms)
