@@ -9,17 +9,16 @@ ghost use Rattle.simulation.specs.Hops.{own};
 ghost use Rattle.simulation.specs.Slot.{cellsAfter};
 ghost use Rattle.simulation.specs.Inner.{GapsIn, hopsIn, Movable, AllMovable};
 
-// For each link the gap that widths go by if it sends in the slot, else 0: worked out once for all flows, whose width is then the rate times this.
+// For each link its period, by which widths go, if it sends in the slot, else 0: worked out once for all flows, whose width is then the rate times this.
 fn gaps_sending(site: Site, slot: u32) -> [u16; 63]
     ensures { λ r. ⌜ GapsIn site slot r ⌝ }
 {
-    let gaps = site::gaps_judged(site);
     let links = site::link_count(site.links);
     let mut sending = [0u16; 63];
     let mut i = 0;
     while i < links {
         if sends_in(site.periods[i], site.offsets[i], slot) {
-            sending[i] = gaps[i];
+            sending[i] = site.periods[i];
         }
         i += 1;
     }

@@ -1,4 +1,4 @@
-// What live flows keep on the links of their routes.
+// What live flows keep on the links of their routes. 02, U2: widths, and the sums of 12, 13, 17 and 18, go by the periods.
 use crate::Flow;
 use crate::Site;
 use crate::link_count;
@@ -10,13 +10,6 @@ ghost use lib.ListN.{length, getD};
 ghost use Rattle.site.specs.Tree.{route};
 ghost use Rattle.site.specs.Reservations.{gapsJudged, firstOver, firstUnfit, along, firstLate, delayBound};
 ghost use Rattle.site.specs.Inner.{carried, Loads};
-
-// 02, U2: widths and the sums of 12, 13, 17 and 18 go by the periods.
-pub fn gaps_judged(site: Site) -> [u16; 63]
-    ensures { λ r. ⌜ r ≡ gapsJudged site ⌝ }
-{
-    site.periods
-}
 
 // The sum of the values of the links from the node up to the root.
 fn sum_along<'a>(values: &'a [u16], parents: &'a [u8], node: u8) -> u32
@@ -35,7 +28,13 @@ fn sum_along<'a>(values: &'a [u16], parents: &'a [u8], node: u8) -> u32
 }
 
 // Adds a flow's width on each link from its entry node up, and sums up the gaps of these links on the way.
-fn add_widths(gaps: &[u16], parents: &[u8], entry: u8, rate: u8, loads: &mut [u32]) -> u32
+fn add_widths<'a>(
+    gaps: &'a [u16],
+    parents: &'a [u8],
+    entry: u8,
+    rate: u8,
+    loads: &mut [u32],
+) -> u32
     requires { ⌜ (length (now loads) ≡ length (now parents)) × ((i : ℕ) → getD (now loads) i 0 ≤ 4000000000) ⌝ }
     ensures { λ r. ⌜ (r ≡ along (now (gaps .entry)) (route (now (parents .entry)) entry))
         × (now (loads .exit) ≡ carried (now (gaps .entry)) rate (route (now (parents .entry)) entry) (now (loads .entry))) ⌝ }
@@ -65,7 +64,6 @@ struct Reserved {
 fn reserved_of(site: Site) -> Reserved
     ensures { λ r. ⌜ Loads site (r .loads) × (r .late ≡ firstLate site) ⌝ }
 {
-    let gaps = gaps_judged(site);
     let mut loads = [0u32; 63];
     let mut late = 64;
     let mut n = 64;
@@ -74,7 +72,7 @@ fn reserved_of(site: Site) -> Reserved
         if site.states[n] == 1 {
             let entry = site.entries[n];
             let rate = site.rates[n];
-            let sum = add_widths(&gaps, &site.parents, entry, rate, &mut loads);
+            let sum = add_widths(&site.periods, &site.parents, entry, rate, &mut loads);
             if (site.deadlines[n] as u32) < sum {
                 late = n;
             }
@@ -112,7 +110,6 @@ pub fn first_faults(site: Site) -> Faults
 pub fn first_unfit(site: Site, flow: Flow) -> u8
     ensures { λ r. ⌜ r ≡ firstUnfit site (flow .rate) (route (site .parents) (flow .entry)) ⌝ }
 {
-    let gaps = gaps_judged(site);
     let reserved = reserved_of(site);
     let mut link = flow.entry;
     loop {
@@ -121,7 +118,7 @@ pub fn first_unfit(site: Site, flow: Flow) -> u8
             return 0;
         }
         let i = (link - 1) as usize;
-        let width = flow.rate as u32 * value_of(&gaps, link) as u32;
+        let width = flow.rate as u32 * value_of(&site.periods, link) as u32;
         if (site.capacities[i] as u32) < reserved.loads[i] + width {
             return link;
         }
@@ -133,8 +130,7 @@ pub fn first_unfit(site: Site, flow: Flow) -> u8
 pub fn gaps_along(site: Site, node: u8) -> u32
     ensures { λ r. ⌜ r ≡ along (gapsJudged site) (route (site .parents) node) ⌝ }
 {
-    let gaps = gaps_judged(site);
-    sum_along(&gaps, &site.parents, node)
+    sum_along(&site.periods, &site.parents, node)
 }
 
 // 01: G, the sum of the periods on the flow's route.

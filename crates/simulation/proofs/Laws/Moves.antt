@@ -56,15 +56,15 @@ module _ (s : Site) (t : ℕ) where
 
   module _ (i : ℕ) (xs : List ℕ) (w : Sending s t i xs) (l : i < used (s .links)) (b : Bool)
       (e : b ≡ sends (getD (s .periods) i 0) (getD (s .offsets) i 0) t) where
-    pub sending-yes : b ≡ true → (gaps : List ℕ) → gaps ≡ gapsJudged s → Sending s t (i + 1) (set xs i (getD gaps i 0))
+    pub sending-yes : b ≡ true → Sending s t (i + 1) (set xs i (getD (gapsJudged s) i 0))
     unfolding gapIn ofLink
-    sending-yes q gaps g = record {
+    sending-yes q = record {
       most = omega arith;
       long = length-set xs i _ ∙ w .long;
       done = below-more _ i
-          (λ k m. getD-set-other xs i k (getD gaps i 0) 0 (λ z. omega arith) ∙ w .done k m)
-          (getD-set-same xs i (getD gaps i 0) 0 (omega (arith, w .long, sending-few i xs w l)) ∙ rw (link-is i l, ← e, q, g));
-      rest = λ k m. getD-set-other xs i k (getD gaps i 0) 0 (λ z. omega arith) ∙ w .rest k (omega arith);
+          (λ k m. getD-set-other xs i k (getD (gapsJudged s) i 0) 0 (λ z. omega arith) ∙ w .done k m)
+          (getD-set-same xs i (getD (gapsJudged s) i 0) 0 (omega (arith, w .long, sending-few i xs w l)) ∙ rw (link-is i l, ← e, q));
+      rest = λ k m. getD-set-other xs i k (getD (gapsJudged s) i 0) 0 (λ z. omega arith) ∙ w .rest k (omega arith);
     }
 
     pub sending-no : b ≡ false → Sending s t (i + 1) xs

@@ -202,23 +202,23 @@ module _ (s : Site) where
       }
 
       -- It is live: its widths and the sum of its gaps come from one way up.
-      module _ (l : getD (s .states) k 0 ≡ 1) (gaps : List ℕ) (g : gaps ≡ gapsJudged s) (sum : ℕ) (next : List ℕ)
-          (up : (sum ≡ along gaps (route (s .parents) (getD (s .entries) k 0)))
-          × (next ≡ carried gaps (getD (s .rates) k 0) (route (s .parents) (getD (s .entries) k 0)) loads)) where
+      module _ (l : getD (s .states) k 0 ≡ 1) (sum : ℕ) (next : List ℕ)
+          (up : (sum ≡ along (gapsJudged s) (route (s .parents) (getD (s .entries) k 0)))
+          × (next ≡ carried (gapsJudged s) (getD (s .rates) k 0) (route (s .parents) (getD (s .entries) k 0)) loads)) where
         judged : late s k ≡ ltb (getD (s .deadlines) k 0) sum
         unfolding routeOf
-        judged = late-judged s k sum l (rw (← g) (up .0))
+        judged = late-judged s k sum l (up .0)
 
         more : (first′ : ℕ) → first′ ≡ firstIn (late s) 64 k → Judging s k next first′
         unfolding live routeOf
         more first′ f = record {
           upto = omega (arith, w .upto);
-          long = rw (up .1) (carried-long gaps (getD (s .rates) k 0) (route (s .parents) (getD (s .entries) k 0)) loads ∙ w .long);
+          long = rw (up .1) (carried-long (gapsJudged s) (getD (s .rates) k 0) (route (s .parents) (getD (s .entries) k 0)) loads ∙ w .long);
           each = λ i h. omega (
             arith,
-            rw (e, sum-more (widthOn s (i + 1)) k, width-live s (i + 1) k (eq-eqb _ _ l), ← g) at (w .each i h),
+            rw (e, sum-more (widthOn s (i + 1)) k, width-live s (i + 1) k (eq-eqb _ _ l)) at (w .each i h),
             ap (λ (xs : List ℕ). getD xs i 0) (up .1)
-                ∙ carried-at gaps (getD (s .rates) k 0) (s .parents) i (getD (s .entries) k 0) loads (omega (arith, w .long)),
+                ∙ carried-at (gapsJudged s) (getD (s .rates) k 0) (s .parents) i (getD (s .entries) k 0) loads (omega (arith, w .long)),
           );
           found = f;
         }
@@ -246,10 +246,10 @@ module _ (s : Site) (rate n u : ℕ) (e : u ≡ up (s .parents) n) where
   unfit-end l = rw (route-end (s .parents) n (rw e at l))
 
   -- The load of its link as it stands in a list of loads, and the link's gap.
-  module _ (h : u < n) (x g : ℕ) (gaps : List ℕ) (is : x ≡ load s (n - 1 + 1)) (q : g ≡ ofLink gaps n) (j : gaps ≡ gapsJudged s) where
+  module _ (h : u < n) (x g : ℕ) (is : x ≡ load s (n - 1 + 1)) (q : g ≡ ofLink (gapsJudged s) n) where
     unfit-test : unfit s rate n ≡ ltb (getD (s .capacities) (n - 1) 0) (x + rate * g)
     unfolding unfit widthAt
-    unfit-test = let one : n - 1 + 1 ≡ n = omega arith in rw (← link-in (s .capacities) n (omega arith), q, j, is, one)
+    unfit-test = let one : n - 1 + 1 ≡ n = omega arith in rw (← link-in (s .capacities) n (omega arith), q, is, one)
 
     unfit-step : firstUnfit s rate (route (s .parents) n) ≡ cond (unfit s rate n) n (firstUnfit s rate (route (s .parents) u))
     unfolding firstUnfit

@@ -1,23 +1,27 @@
 -- Right because `Sending` holds: the entries before i are in and the others 0; the number of links left falls.
 use borrow.Author.Needs.{needs}
-use Prim.Native.Nat.{_-_}
+use Prim.Native.Nat.{_-_, _<_}
 use mathlib.Core.Path.{_≡_}
 use mathlib.Core.Logic.{inl, inr}
 use lib.ListN.{length}
 use native.Mathlib.Omega.{arith}
+use Rattle.site.specs.Sites.{used}
 use Rattle.site.specs.Reservations.{gapsJudged}
 use Rattle.simulation.proofs.Laws.Moves.{Sending, sending-start, sending-few, sending-yes, sending-no, sending-end}
 use Rattle.simulation.proofs.moves.gaps_sending.Statement.{statement}
 use Rattle.simulation.proofs.moves.gaps_sending.Tie as tie
 
 abbrev Inv-loop : tie.InvT-loop
-Inv-loop slot site gaps links sending₀ i₀ sending i = Sending site slot i sending
+Inv-loop slot site links sending₀ i₀ sending i = Sending site slot i sending
 
 abbrev μ-loop : tie.MeasureT-loop
-μ-loop slot site gaps links sending₀ i₀ sending i = links - i
+μ-loop slot site links sending₀ i₀ sending i = links - i
 
-gaps-judged-requires : tie.Need-gaps-judged-requires Inv-loop μ-loop
-gaps-judged-requires c κs = search needs
+here : (c : tie.In-loop Inv-loop μ-loop) → c .before .loop .i < used (c .before .before .before .args .t1 .links)
+here c = rw (c .before .before .link-count .ensures) at (c .loop-test .taken)
+
+few : (c : tie.In-loop Inv-loop μ-loop) → c .before .loop .i < 63
+few c = sending-few _ _ _ _ (c .before .loop .inv) (here c)
 
 link-count-requires : tie.Need-link-count-requires Inv-loop μ-loop
 link-count-requires c κs = search needs
@@ -26,31 +30,31 @@ loop-holds : tie.Need-loop-holds Inv-loop μ-loop
 loop-holds c = sending-start _ _
 
 mul-sends-in : tie.Need-mul-sends-in Inv-loop μ-loop
-mul-sends-in c = omega (arith, sending-few _ _ _ _ (c .before .loop .inv) (rw (c .before .before .link-count .ensures) at (c .loop-test .taken)))
+mul-sends-in c = omega (arith, few c)
 
 element-copy-out-sends-in : tie.Need-element-copy-out-sends-in Inv-loop μ-loop
-element-copy-out-sends-in c = omega (arith, sending-few _ _ _ _ (c .before .loop .inv) (rw (c .before .before .link-count .ensures) at (c .loop-test .taken)))
+element-copy-out-sends-in c = omega (arith, few c)
 
 mul-sends-in-2 : tie.Need-mul-sends-in-2 Inv-loop μ-loop
-mul-sends-in-2 c = omega (arith, sending-few _ _ _ _ (c .before .before .loop .inv) (rw (c .before .before .before .link-count .ensures) at (c .before .loop-test .taken)))
+mul-sends-in-2 c = omega (arith, few (c .before))
 
 element-copy-out-sends-in-2 : tie.Need-element-copy-out-sends-in-2 Inv-loop μ-loop
-element-copy-out-sends-in-2 c = omega (arith, sending-few _ _ _ _ (c .before .before .loop .inv) (rw (c .before .before .before .link-count .ensures) at (c .before .loop-test .taken)))
+element-copy-out-sends-in-2 c = omega (arith, few (c .before))
 
 sends-in-requires : tie.Need-sends-in-requires Inv-loop μ-loop
 sends-in-requires c κs = search needs
 
 mul-sending : tie.Need-mul-sending Inv-loop μ-loop
-mul-sending c = omega (arith, sending-few _ _ _ _ (c .before .before .before .before .before .loop .inv) (rw (c .before .before .before .before .before .before .link-count .ensures) at (c .before .before .before .before .loop-test .taken)))
+mul-sending c = omega (arith, few (c .before .before .before .before))
 
-array-read-sending : tie.Need-array-read-sending Inv-loop μ-loop
-array-read-sending c = omega (arith, sending-few _ _ _ _ (c .before .before .before .before .before .loop .inv) (rw (c .before .before .before .before .before .before .link-count .ensures) at (c .before .before .before .before .loop-test .taken)))
+element-copy-out-sending : tie.Need-element-copy-out-sending Inv-loop μ-loop
+element-copy-out-sending c = omega (arith, few (c .before .before .before .before))
 
 mul-sending-2 : tie.Need-mul-sending-2 Inv-loop μ-loop
-mul-sending-2 c = omega (arith, sending-few _ _ _ _ (c .before .before .before .before .before .loop .inv) (rw (c .before .before .before .before .before .before .link-count .ensures) at (c .before .before .before .before .loop-test .taken)))
+mul-sending-2 c = omega (arith, few (c .before .before .before .before .before))
 
 array-write-sending : tie.Need-array-write-sending Inv-loop μ-loop
-array-write-sending c = omega (arith, sending-few _ _ _ _ (c .before .before .before .before .before .loop .inv) (rw (c .before .before .before .before .before .before .link-count .ensures) at (c .before .before .before .before .loop-test .taken)))
+array-write-sending c = omega (arith, few (c .before .before .before .before .before))
 
 add-i : tie.Need-add-i Inv-loop μ-loop
 add-i c = search needs
@@ -59,15 +63,18 @@ loop-less : tie.Need-loop-less Inv-loop μ-loop
 loop-less c = search needs
 
 loop-again : tie.Need-loop-again Inv-loop μ-loop
-loop-again c = let here = rw (c .before .before .before .before .before .before .link-count .ensures) at (c .before .before .before .before .loop-test .taken) in
+unfolding gapsJudged
+loop-again c =
+    let at = c .before .before .before .before in
     elim (c .if1 .came) [
-      | inl w ↦ rw (w .1) (sending-yes _ _ _ _ (c .before .before .before .before .before .loop .inv) here _ (c .before .sends-in .ensures) (w .0 .taken) _ (c .before .before .before .before .before .before .before .gaps-judged .ensures))
-      | inr w ↦ rw (w .1) (sending-no _ _ _ _ (c .before .before .before .before .before .loop .inv) here _ (c .before .sends-in .ensures) (w .0 .left))
+      | inl w ↦ rw (w .2) (sending-yes _ _ _ _ (at .before .loop .inv) (here at) _ (c .before .sends-in .ensures) (w .0 .taken))
+      | inr w ↦ rw (w .1) (sending-no _ _ _ _ (at .before .loop .inv) (here at) _ (c .before .sends-in .ensures) (w .0 .left))
     ]
 
 returns : tie.Need-returns Inv-loop μ-loop
 unfolding gapsJudged
-returns c = let site = c .before .before .before .before .args .t1 in
+returns c =
+    let site = c .before .before .before .args .t1 in
     let long : length (site .periods) ≡ 63 = search needs in
     sending-end _ _ _ _ (c .before .loop .inv) (rw (c .before .before .link-count .ensures) at (c .loop-test .left)) long
 
@@ -77,7 +84,6 @@ gaps-sending-spec =
     (tie.spec
     Inv-loop
     μ-loop
-    gaps-judged-requires
     link-count-requires
     loop-holds
     mul-sends-in
@@ -86,7 +92,7 @@ gaps-sending-spec =
     element-copy-out-sends-in-2
     sends-in-requires
     mul-sending
-    array-read-sending
+    element-copy-out-sending
     mul-sending-2
     array-write-sending
     add-i
