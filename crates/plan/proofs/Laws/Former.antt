@@ -1,6 +1,6 @@
 -- A plan that was accepted by wanted gaps is accepted by periods: no period is above its wanted gap, so no width and no sum along a route has grown.
-use Prim.Native.Nat.{ℕ, zero, suc, _+_, _*_, _≤_, _<_}
-use mathlib.Core.Path.{_≡_, refl, sym, _∙_, ap}
+use Prim.Native.Nat.{ℕ, zero, suc, _+_, _*_, _≤_}
+use mathlib.Core.Path.{_≡_, refl, _∙_, ap}
 use mathlib.Core.Bool.{Bool, true, false, cond, _&&_}
 use mathlib.Core.List.{List}
 use mathlib.Core.Logic.{_↔_}
@@ -16,7 +16,7 @@ use Rattle.pinwheel.proofs.Laws.Search.{first-none}
 use Rattle.site.specs.declared.Site.{Site}
 use Rattle.site.specs.Sites.{used, ofLink, live, withSchedule}
 use Rattle.site.specs.Tree.{has}
-use Rattle.site.specs.Reservations.{gapsJudged, routeOf, widthAt, widthOn, sumTo, load, along, delayBound}
+use Rattle.site.specs.Reservations.{gapsJudged, routeOf, widthAt, widthOn, sumTo, load, along}
 use Rattle.site.specs.Words.{Carried, Punctual}
 use Rattle.schedule.specs.Schedule.{gapsUnder, rank, dealtUnder, baseUnder, crowded, firstCrowded, entryDealt, offsetsDealt, periodsDealt, scheduled}
 use Rattle.schedule.specs.Words.{Wellgapped, Served, Timed}
