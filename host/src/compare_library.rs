@@ -217,8 +217,8 @@ mod tests {
         let answer = model::admit(plan, counters, flow, out);
         match answer {
             Err(refusal) if refusal.number == 17 => {
-                let gaps = read_plan(plan)?.wanted_gaps(usize::from(flow.entry));
-                if gaps > u64::from(flow.deadline) {
+                let bound = read_plan(plan)?.periods_up(usize::from(flow.entry));
+                if bound > u64::from(flow.deadline) {
                     return refuse(18, usize::from(flow.number));
                 }
             }

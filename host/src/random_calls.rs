@@ -178,24 +178,24 @@ fn room(site: &Site, node: usize) -> u64 {
     let links = route(&site.parents, node).into_iter();
     let rates = links.map(|link| {
         let left = site.capacities[link - 1] - site.reserved(link);
-        left / site.gaps[link - 1]
+        left / site.periods[link - 1]
     });
     rates.min().unwrap_or(0)
 }
 
 pub fn random_flow(random: &mut Random, site: &Site) -> Flow {
     let entry = random_node(random, site);
-    let (room, gaps) = if site.has_entry_node(entry) {
-        (room(site, entry), site.wanted_gaps(entry))
+    let (room, bound) = if site.has_entry_node(entry) {
+        (room(site, entry), site.periods_up(entry))
     } else {
         (1, 1)
     };
     let any = random.between(1, OF_8_BITS);
     let part = random.between(1, room.max(1));
     let rate = random.pick(&[room, room.max(1), room + 1, part, part, part, 1, 1, any]);
-    let later = random.between(gaps, OF_16_BITS);
-    let short = gaps - 1;
-    let deadline = random.pick(&[gaps, gaps, gaps + 1, short, short, later, OF_16_BITS]);
+    let later = random.between(bound, OF_16_BITS);
+    let short = bound - 1;
+    let deadline = random.pick(&[bound, bound, bound + 1, short, short, later, OF_16_BITS]);
     Flow {
         number: random_number(random, &site.numbers_not_live(), &site.live_flows()),
         entry,
