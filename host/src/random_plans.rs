@@ -170,12 +170,17 @@ impl Draft {
         }
     }
 
+    /// In some plans each link has room for more flows, of all rates up to one.
     fn choose_capacities(&mut self, random: &mut Random) {
         let most = *CAPACITIES.end();
-        let needed = [&self.periods, &self.gaps].map(|list| self.reserved(list));
+        let room = random.pick(&[0, 0, 0, 4, 30]);
+        let lists = [&self.periods, &self.gaps];
+        let reserved = lists.map(|list| self.reserved(list));
         for index in 0..self.parents.len() {
-            let needed = [needed[0][index].clamp(1, most), needed[1][index]];
-            self.capacities[index] = at_least(random, needed, most);
+            let rate = random.between(0, room);
+            let needed = [0, 1].map(|of| reserved[of][index] + rate * lists[of][index]);
+            let least = needed[0].clamp(1, most);
+            self.capacities[index] = at_least(random, [least, needed[1]], most);
         }
     }
 
@@ -209,5 +214,44 @@ impl Draft {
             flow_command(number, entry, flow.rate, flow.deadline)
         });
         nodes.chain(flows).collect()
+    }
+}
+
+#[cfg(test)]
+mod tests {
+    use super::*;
+    use crate::bytes::{read_dealt, read_plan};
+    use crate::damage::undamaged_plan;
+    use crate::former::by_wanted_gaps;
+    use crate::random_calls::{has_short_period, has_short_route};
+
+    /// Plans that 12 or 13 would refuse by wanted gaps, and such that they refuse for one packet or one slot at short periods.
+    #[test]
+    fn random_plans_are_near_the_border_of_12_and_13() {
+        let mut random = Random::from_seed(33);
+        let [mut wide, mut late, mut over, mut short] = [0; 4];
+        for _ in 0..4000 {
+            let plan = undamaged_plan(&mut random);
+            let Ok(site) = read_dealt(&plan) else {
+                continue;
+            };
+            let answer = read_plan(&plan).map_err(|refusal| (refusal.number, refusal.place));
+            match answer {
+                Ok(_) => {
+                    let formerly = by_wanted_gaps(&site);
+                    wide += u64::from(formerly.check_widths().is_err());
+                    late += u64::from(formerly.check_deadlines().is_err());
+                }
+                Err((12, link)) if has_short_period(&site, link) => {
+                    over += u64::from(site.reserved(link) == site.capacities[link - 1] + 1);
+                }
+                Err((13, flow)) if has_short_route(&site, site.entries[flow] as usize) => {
+                    short += u64::from(site.bound(flow) == site.deadlines[flow] + 1);
+                }
+                _ => (),
+            }
+        }
+        assert!(wide >= 400 && late >= 400, "{wide} {late}");
+        assert!(over >= 40 && short >= 60, "{over} {short}");
     }
 }
