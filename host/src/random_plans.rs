@@ -170,7 +170,7 @@ impl Draft {
         }
     }
 
-    /// In some plans each link has room for more flows, of all rates up to one.
+    /// In some plans each link has room for other flows, whose rates sum to a number of its own.
     fn choose_capacities(&mut self, random: &mut Random) {
         let most = *CAPACITIES.end();
         let room = random.pick(&[0, 0, 0, 4, 30]);
