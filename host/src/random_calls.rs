@@ -184,7 +184,7 @@ pub fn has_short_route(site: &Site, node: usize) -> bool {
     links.any(|link| has_short_period(site, link))
 }
 
-/// Often one with a short route, if there is any.
+/// Often a node with such a route, if there is any.
 fn random_entry(random: &mut Random, site: &Site) -> usize {
     let mut nodes = site.nodes();
     nodes.retain(|&node| has_short_route(site, node));

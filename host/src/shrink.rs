@@ -240,7 +240,7 @@ fn drop_flow(list: &mut List, of: Option<usize>, at: usize) {
     }
 }
 
-/// Each link of the route loses the flow's width, so that as much is left for others. None: there is no FLOW with a route.
+/// Each link of the route loses the flow's width, so that as much is left for others. None: there is no FLOW, or slots are not dealt.
 fn without_flow(plan: &mut Vec<u8>, at: usize) -> Option<()> {
     let site = read_dealt(plan).ok()?;
     let &[FLOW, number, ..] = plan.get(at..at + COMMAND_LENGTH)? else {
