@@ -129,33 +129,34 @@ static void print_schedule(const struct site *site)
     write_again(&schedule, file, length);
 }
 
-/* A flow number 5 at node 2 with a deadline of 6 slots. */
+/* A flow number 5 at node 2 with a deadline of 5 slots. */
 static slotplan_answer admit_5(struct site *site, uint8_t rate)
 {
     return slotplan_admit(plan_of(site), site->length, site->counters, SLOTPLAN_COUNTERS,
-                          5, 2, rate, 6, other_buffer(site), SLOTPLAN_PLAN_MOST);
+                          5, 2, rate, 5, other_buffer(site), SLOTPLAN_PLAN_MOST);
 }
 
-/* With rate 4 the flow would reserve 24 packets on link 2, which has room for 20. */
+/* Link 2 wants a gap of 6 slots and sends every 4.  With rate 6 the flow would reserve 24 packets
+ * on it, which has room for 20. */
 static void admit_in_two_attempts(struct site *site)
 {
-    slotplan_answer answer = admit_5(site, 4);
+    slotplan_answer answer = admit_5(site, 6);
 
-    printf("flow 5 at rate 4: refused %u, place %" PRIu64 "\n", SLOTPLAN_NUMBER(answer),
+    printf("flow 5 at rate 6: refused %u, place %" PRIu64 "\n", SLOTPLAN_NUMBER(answer),
            SLOTPLAN_PLACE(answer));
     expect(SLOTPLAN_NUMBER(answer) == 17 && SLOTPLAN_PLACE(answer) == 2, "refusal of flow 5");
-    swap_buffers(site, value_of(admit_5(site, 3), "admit"));
-    printf("flow 5 at rate 3: accepted, plan of %zu bytes\n", site->length);
+    swap_buffers(site, value_of(admit_5(site, 4), "admit"));
+    printf("flow 5 at rate 4: accepted, plan of %zu bytes\n", site->length);
 }
 
-/* Three packets of both flows in each slot from 0 up to the last. */
+/* As many packets of both flows as their rates in each slot from 0 up to the last. */
 static void run_slots(struct site *site, uint32_t last)
 {
     uint16_t arrivals[SLOTPLAN_NUMBERS] = {0};
     uint32_t slot;
 
     arrivals[0] = 3;
-    arrivals[5] = 3;
+    arrivals[5] = 4;
     for (slot = 0; slot <= last; slot++) {
         value_of(slotplan_slot(plan_of(site), site->length, site->counters, SLOTPLAN_COUNTERS,
                                arrivals, SLOTPLAN_NUMBERS, slot), "slot");
@@ -217,6 +218,7 @@ int main(void)
     print_flow(&site, 0);
     print_flow(&site, 5);
     expect(site.counters[SLOTPLAN_CELL(0) + 8] == 42, "delivered packets of flow 0");
+    expect(site.counters[SLOTPLAN_CELL(5) + 8] == 56, "delivered packets of flow 5");
     ask(&site);
     release_5(&site);
     deal_five_children();

@@ -17,7 +17,8 @@
  * handed in, and a call ends and answers.
  *
  * Units: counters and arrivals are packets, capacities and rates packets a slot; gaps, periods,
- * offsets, deadlines and bounds are slots.
+ * offsets, deadlines and bounds are slots.  On each link of its route a flow has a width, its rate
+ * times the link's period, in packets.
  *
  * Each function lists its checks in their order.  The first that fails refuses the call, with its
  * number and a place; then all memory is as it was before.  The numbers are those of documents 01
@@ -35,13 +36,13 @@
  *   10  bytes after END
  *   11  crowded: no base fits the children of a parent
  *   12  the widths on a link sum to more than its capacity
- *   13  the gaps wanted on a flow's route sum to more than its deadline
+ *   13  the periods on a flow's route sum to more than its deadline
  *   14  the plan bytes are refused; slotplan_mark tells by which check and where.  Or no file reads
  *       to the schedule that is handed in; for the one without links there is 9
  *   15  the flow number is live already
  *   16  the flow number is not live
  *   17  the flow's width does not fit beside the live ones
- *   18  the gaps wanted on the route sum to more than the deadline of the new flow
+ *   18  the periods on the route sum to more than the deadline of the new flow
  *   19  a flow's nine cells and its arrival sum to more than 4,294,967,295
  *   20  arrivals for a flow number that is not live
  *   21  link numbers of a schedule file that are not 1, 2, 3 up to at most 63 in order

@@ -88,7 +88,8 @@ pub fn check_end(links: u64, bytes: &[u8], at: usize) -> Result<(), Refusal> {
     Ok(())
 }
 
-pub fn read_plan(bytes: &[u8]) -> Result<Site, Refusal> {
+/// The site with its slots dealt, before its flows are judged: all checks but 12 and 13.
+pub fn read_dealt(bytes: &[u8]) -> Result<Site, Refusal> {
     let mut site = Site::empty();
     let mut at = 0;
     while bytes.get(at) != Some(&END) {
@@ -101,7 +102,15 @@ pub fn read_plan(bytes: &[u8]) -> Result<Site, Refusal> {
         at += COMMAND_LENGTH;
     }
     check_end(site.links, bytes, at)?;
-    site.settle()?;
+    site.deal_all()?;
+    Ok(site)
+}
+
+/// 01: after END 11, then 12, then 13.
+pub fn read_plan(bytes: &[u8]) -> Result<Site, Refusal> {
+    let site = read_dealt(bytes)?;
+    site.check_widths()?;
+    site.check_deadlines()?;
     Ok(site)
 }
 

@@ -33,15 +33,27 @@ pub fn admission(site: &mut Site, counters: &mut [u32], flow: Flow) -> Result<()
     }
     let mut after = site.clone();
     after.add_flow(flow);
-    let going_up = after.route_of_flow(flow.number);
-    if let Some(&link) = going_up.iter().find(|&&link| after.is_overfull(link)) {
-        return refuse(17, link);
-    }
-    if after.is_late(flow.number) {
-        return refuse(18, flow.number);
-    }
+    check_room(&after, flow.number)?;
+    check_deadline(&after, flow.number)?;
     *site = after;
     clear_cells(counters, flow.number);
+    Ok(())
+}
+
+/// 17, on the site with the new flow.
+pub fn check_room(after: &Site, number: usize) -> Result<(), Refusal> {
+    let mut going_up = after.route_of_flow(number).into_iter();
+    match going_up.find(|&link| after.is_overfull(link)) {
+        Some(link) => refuse(17, link),
+        None => Ok(()),
+    }
+}
+
+/// 18, on the site with the new flow.
+pub fn check_deadline(after: &Site, number: usize) -> Result<(), Refusal> {
+    if after.is_late(number) {
+        return refuse(18, number);
+    }
     Ok(())
 }
 
@@ -101,8 +113,17 @@ mod tests {
     #[test]
     fn marked_admissions_on_p() {
         assert_eq!(admission_on_p(flow(5, 2, 3, 6)), Ok(()));
-        assert_eq!(admission_on_p(flow(5, 2, 4, 6)), refuse(17, 2));
-        assert_eq!(admission_on_p(flow(5, 2, 3, 5)), refuse(18, 5));
+        assert_eq!(admission_on_p(flow(5, 2, 4, 5)), Ok(()));
+        assert_eq!(admission_on_p(flow(5, 2, 6, 6)), refuse(17, 2));
+        assert_eq!(admission_on_p(flow(5, 2, 3, 3)), refuse(18, 5));
+    }
+
+    /// Link 2 wants a gap of 6, has a period of 4, and a capacity of 20.
+    #[test]
+    fn a_width_of_just_the_capacity_and_a_deadline_of_just_the_periods_are_accepted() {
+        assert_eq!(admission_on_p(flow(5, 2, 5, 4)), Ok(()));
+        assert_eq!(admission_on_p(flow(5, 2, 6, 4)), refuse(17, 2));
+        assert_eq!(admission_on_p(flow(5, 2, 5, 3)), refuse(18, 5));
     }
 
     #[test]
@@ -147,14 +168,14 @@ mod tests {
         site.gaps[62] = 1;
         let mut answer =
             |site: &mut Site, lent: usize, flow: Flow| admission(site, &mut counters[..lent], flow);
-        assert_eq!(answer(&mut site, 575, flow(0, 4, 0, 5)), refuse(1, 0));
-        assert_eq!(answer(&mut site, 576, flow(0, 4, 0, 5)), refuse(14, 0));
+        assert_eq!(answer(&mut site, 575, flow(0, 4, 0, 3)), refuse(1, 0));
+        assert_eq!(answer(&mut site, 576, flow(0, 4, 0, 3)), refuse(14, 0));
         site.gaps[62] = 0;
-        assert_eq!(answer(&mut site, 576, flow(0, 4, 0, 5)), refuse(5, 0));
-        assert_eq!(answer(&mut site, 576, flow(0, 4, 4, 5)), refuse(6, 0));
-        assert_eq!(answer(&mut site, 576, flow(0, 2, 4, 5)), refuse(15, 0));
-        assert_eq!(answer(&mut site, 576, flow(5, 2, 4, 5)), refuse(17, 2));
-        assert_eq!(answer(&mut site, 576, flow(5, 2, 3, 5)), refuse(18, 5));
+        assert_eq!(answer(&mut site, 576, flow(0, 4, 0, 3)), refuse(5, 0));
+        assert_eq!(answer(&mut site, 576, flow(0, 4, 6, 3)), refuse(6, 0));
+        assert_eq!(answer(&mut site, 576, flow(0, 2, 6, 3)), refuse(15, 0));
+        assert_eq!(answer(&mut site, 576, flow(5, 2, 6, 3)), refuse(17, 2));
+        assert_eq!(answer(&mut site, 576, flow(5, 2, 5, 3)), refuse(18, 5));
     }
 
     #[test]

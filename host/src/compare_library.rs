@@ -124,14 +124,16 @@ pub fn compare_library(count: u64, seed: u64) -> u8 {
 #[cfg(test)]
 mod tests {
     use super::*;
-    use crate::bytes::{read_plan, COMMAND_LENGTH};
-    use crate::calls::{CELLS, COUNTERS};
+    use crate::bytes::{read_dealt, read_plan, COMMAND_LENGTH};
+    use crate::calls::{check_deadline, check_room, CELLS, COUNTERS};
+    use crate::former::{by_wanted_gaps, read_formerly};
     use crate::functions::{Functions, PLAIN};
     use crate::host_calls::Call;
     use crate::library::NewFlow;
     use crate::model;
     use crate::programs::hex;
-    use crate::rules::refuse;
+    use crate::rules::{refuse, Refusal, Site};
+    use crate::slots::Packets;
 
     /// In 250,000 cases each function is accepted at least 2,000 times and refused by each of its numbers at least 200 times.
     fn assert_equal(judged: Functions, right: Functions, [count, seed]: [u64; 2]) {
@@ -217,8 +219,8 @@ mod tests {
         let answer = model::admit(plan, counters, flow, out);
         match answer {
             Err(refusal) if refusal.number == 17 => {
-                let gaps = read_plan(plan)?.wanted_gaps(usize::from(flow.entry));
-                if gaps > u64::from(flow.deadline) {
+                let bound = read_plan(plan)?.periods_up(usize::from(flow.entry));
+                if bound > u64::from(flow.deadline) {
                     return refuse(18, usize::from(flow.number));
                 }
             }
@@ -238,6 +240,116 @@ mod tests {
         shows(&difference, "found refused 18 ");
         shows(&difference, "admit number ");
         shows(&difference, "counters 576 room ");
+    }
+
+    /// 12 by wanted gaps.
+    fn former_12(plan: &[u8]) -> Answer {
+        by_wanted_gaps(&read_dealt(plan)?).check_widths()?;
+        model::mark(plan)
+    }
+
+    /// 13 by wanted gaps.
+    fn former_13(plan: &[u8]) -> Answer {
+        let answer = model::mark(plan)?;
+        by_wanted_gaps(&read_plan(plan)?).check_deadlines()?;
+        Ok(answer)
+    }
+
+    /// A period is below its wanted gap only where the parent has another child, so that a plan keeps more than two commands.
+    #[test]
+    fn a_plan_judged_by_wanted_gaps_is_found() {
+        for (mark, number) in [(former_12 as fn(&[u8]) -> Answer, 12), (former_13, 13)] {
+            let judged = Functions { mark, ..MODEL };
+            let difference = difference(judged, "mark", 4);
+            shows(&difference, &format!("found refused {number} "));
+            shows(&difference, "expected accepted");
+        }
+    }
+
+    /// An admission that is refused too where the check refuses the new site with wanted gaps in the place of periods.
+    fn admitted_by(
+        check: fn(&Site, usize) -> Result<(), Refusal>,
+        (plan, counters): (&[u8], &mut [u32]),
+        flow: NewFlow,
+        out: &mut [u8],
+    ) -> Answer {
+        let (mut cleared, mut written) = (counters.to_vec(), out.to_vec());
+        let length = model::admit(plan, &mut cleared, flow, &mut written)?;
+        let after = read_plan(&written[..length as usize])?;
+        check(&by_wanted_gaps(&after), usize::from(flow.number))?;
+        counters.copy_from_slice(&cleared);
+        out.copy_from_slice(&written);
+        Ok(length)
+    }
+
+    fn former_17(plan: &[u8], counters: &mut [u32], flow: NewFlow, out: &mut [u8]) -> Answer {
+        admitted_by(check_room, (plan, counters), flow, out)
+    }
+
+    fn former_18(plan: &[u8], counters: &mut [u32], flow: NewFlow, out: &mut [u8]) -> Answer {
+        admitted_by(check_deadline, (plan, counters), flow, out)
+    }
+
+    #[test]
+    fn an_admission_judged_by_wanted_gaps_is_found() {
+        let [room, deadline] = [former_17, former_18].map(|admit| {
+            let judged = Functions { admit, ..MODEL };
+            difference(judged, "admit", 4)
+        });
+        shows(&room, "found refused 17 ");
+        shows(&deadline, "found refused 18 ");
+        shows(&room, "expected accepted");
+        shows(&deadline, "expected accepted");
+    }
+
+    /// Check 14 by wanted gaps.
+    fn former_14(plan: &[u8], counters: &mut [u32]) -> Answer {
+        let mut started = counters.to_vec();
+        let answer = model::start(plan, &mut started)?;
+        read_formerly(plan).or_else(|_| refuse(14, 0))?;
+        counters.copy_from_slice(&started);
+        Ok(answer)
+    }
+
+    #[test]
+    fn a_site_judged_by_wanted_gaps_is_found() {
+        let judged = Functions {
+            start: former_14,
+            ..MODEL
+        };
+        let difference = difference(judged, "start", 4);
+        shows(&difference, "found refused 14 0, expected accepted");
+    }
+
+    /// A slot on a site of wanted gaps, on which the same links send in it: each moves up to rate times wanted gap.
+    fn wide_slot(plan: &[u8], counters: &mut [u32], arrivals: &[u16], number: u32) -> Answer {
+        let answer = model::slot(plan, &mut counters.to_vec(), arrivals, number)?;
+        let site = read_plan(plan)?;
+        let mut wide = by_wanted_gaps(&site);
+        for link in site.nodes() {
+            let (gap, slot) = (site.gaps[link - 1], u64::from(number));
+            let never = gap;
+            wide.offsets[link - 1] = if site.sends(link, slot) {
+                slot % gap
+            } else {
+                never
+            };
+        }
+        let mut packets = Packets::none();
+        packets.adopt(counters);
+        packets.pass_slot(&wide, arrivals, number);
+        counters.copy_from_slice(&packets.counters());
+        Ok(answer)
+    }
+
+    #[test]
+    fn a_slot_that_moves_rate_times_wanted_gap_is_found() {
+        let judged = Functions {
+            slot: wide_slot,
+            ..MODEL
+        };
+        let difference = difference(judged, "slot", 4);
+        shows(&difference, "call 1: counters[");
     }
 
     fn byte_behind(plan: &[u8], out: &mut [u8]) -> Answer {

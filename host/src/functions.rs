@@ -69,16 +69,16 @@ mod tests {
     fn checks_of_an_admission_come_in_the_order_of_the_header() {
         let (good, bad) = (plan_p(9, 7), plan_p(9, 6));
         let lines = [
-            (&bad, 577, flow(0, 4, 0, 5), 0, refuse(1, 0)),
-            (&bad, 575, flow(0, 4, 0, 5), 0, refuse(1, 0)),
-            (&bad, 576, flow(0, 4, 0, 5), 0, refuse(14, 0)),
-            (&good, 576, flow(0, 4, 0, 5), 0, refuse(5, 0)),
-            (&good, 576, flow(0, 4, 4, 5), 0, refuse(6, 0)),
-            (&good, 576, flow(0, 2, 4, 5), 0, refuse(15, 0)),
-            (&good, 576, flow(5, 2, 4, 5), 0, refuse(17, 2)),
-            (&good, 576, flow(5, 2, 3, 5), 0, refuse(18, 5)),
-            (&good, 576, flow(5, 2, 3, 6), 30, refuse(1, 0)),
-            (&good, 576, flow(5, 2, 3, 6), 31, Ok(31)),
+            (&bad, 577, flow(0, 4, 0, 3), 0, refuse(1, 0)),
+            (&bad, 575, flow(0, 4, 0, 3), 0, refuse(1, 0)),
+            (&bad, 576, flow(0, 4, 0, 3), 0, refuse(14, 0)),
+            (&good, 576, flow(0, 4, 0, 3), 0, refuse(5, 0)),
+            (&good, 576, flow(0, 4, 6, 3), 0, refuse(6, 0)),
+            (&good, 576, flow(0, 2, 6, 3), 0, refuse(15, 0)),
+            (&good, 576, flow(5, 2, 6, 3), 0, refuse(17, 2)),
+            (&good, 576, flow(5, 2, 5, 3), 0, refuse(18, 5)),
+            (&good, 576, flow(5, 2, 5, 4), 30, refuse(1, 0)),
+            (&good, 576, flow(5, 2, 5, 4), 31, Ok(31)),
         ];
         for functions in ALL {
             let mut counters = [7; COUNTERS + 1];

@@ -1,4 +1,5 @@
-//! A second implementation of document 01, for comparison with the programs under crates/ and with their library.
+//! A second implementation of document 01 and of U1 and U2 of document 02, for comparison with the programs under crates/ and with
+//! their library.
 
 mod bad_hosts;
 mod bench;
@@ -13,6 +14,8 @@ mod damage;
 #[cfg(test)]
 mod declarations;
 mod expected;
+#[cfg(test)]
+mod former;
 mod functions;
 mod host_calls;
 mod library;

@@ -198,10 +198,7 @@ pub fn bound(plan: &[u8], number: u8) -> Answer {
     let site = site_of(plan)?;
     check_live(&site, number)?;
     let flow = site.flows()[site.flows_below(number)];
-    let periods = site
-        .route(flow.entry)
-        .map(|link| u64::from(site.periods[link]));
-    Ok(periods.sum())
+    Ok(u64::from(site.reaches[usize::from(flow.entry)]))
 }
 
 pub fn deal(gaps: &[u16], offsets: &mut [u16], periods: &mut [u16]) -> Answer {

@@ -173,29 +173,51 @@ pub fn random_node(random: &mut Random, site: &Site) -> usize {
     }
 }
 
+/// Whether the period of a link is below its wanted gap.
+pub fn has_short_period(site: &Site, link: usize) -> bool {
+    site.periods[link - 1] < site.gaps[link - 1]
+}
+
+/// Whether a link from a node up to the root has such a period.
+pub fn has_short_route(site: &Site, node: usize) -> bool {
+    let mut links = route(&site.parents, node).into_iter();
+    links.any(|link| has_short_period(site, link))
+}
+
+/// Often a node with such a route, if there is any.
+fn random_entry(random: &mut Random, site: &Site) -> usize {
+    let mut nodes = site.nodes();
+    nodes.retain(|&node| has_short_route(site, node));
+    if nodes.is_empty() || random.chance(50) {
+        return random_node(random, site);
+    }
+    random.pick(&nodes)
+}
+
 /// The largest rate that all links from a node up to the root have room for.
 fn room(site: &Site, node: usize) -> u64 {
     let links = route(&site.parents, node).into_iter();
     let rates = links.map(|link| {
         let left = site.capacities[link - 1] - site.reserved(link);
-        left / site.gaps[link - 1]
+        left / site.periods[link - 1]
     });
     rates.min().unwrap_or(0)
 }
 
 pub fn random_flow(random: &mut Random, site: &Site) -> Flow {
-    let entry = random_node(random, site);
-    let (room, gaps) = if site.has_entry_node(entry) {
-        (room(site, entry), site.wanted_gaps(entry))
+    let entry = random_entry(random, site);
+    let (room, bound) = if site.has_entry_node(entry) {
+        (room(site, entry), site.periods_up(entry))
     } else {
         (1, 1)
     };
     let any = random.between(1, OF_8_BITS);
     let part = random.between(1, room.max(1));
-    let rate = random.pick(&[room, room.max(1), room + 1, part, part, part, 1, 1, any]);
-    let later = random.between(gaps, OF_16_BITS);
-    let short = gaps - 1;
-    let deadline = random.pick(&[gaps, gaps, gaps + 1, short, short, later, OF_16_BITS]);
+    let full = room.max(1);
+    let rate = random.pick(&[room, full, full, room + 1, room + 1, part, part, 1, any]);
+    let later = random.between(bound, OF_16_BITS);
+    let short = bound - 1;
+    let deadline = random.pick(&[bound, bound, bound + 1, short, short, later, OF_16_BITS]);
     Flow {
         number: random_number(random, &site.numbers_not_live(), &site.live_flows()),
         entry,
@@ -321,8 +343,69 @@ fn random_queues(random: &mut Random, site: &Site, flow: usize) -> Vec<u32> {
 #[cfg(test)]
 mod tests {
     use super::*;
+    use crate::calls::{admission, check_deadline, check_room};
+    use crate::former::by_wanted_gaps;
     use crate::rules::refuse;
     use crate::slots::slot;
+
+    /// Admissions that 17 or 18 would refuse by wanted gaps, and such that they refuse on a route with a short period, though not
+    /// with one packet less or one slot more.
+    #[test]
+    fn random_admissions_are_near_the_border_of_17_and_18() {
+        let mut random = Random::from_seed(31);
+        let [mut wide, mut late, mut over, mut short] = [0; 4];
+        for _ in 0..4000 {
+            let (_, site) = site_to_alter(&mut random);
+            let flow = random_flow(&mut random, &site);
+            let (Flow { rate, deadline, .. }, mut after) = (flow, site.clone());
+            let accepted = |flow| admission(&mut site.clone(), &mut [0; COUNTERS], flow).is_ok();
+            let answer = admission(&mut after, &mut [0; COUNTERS], flow);
+            match answer.map_err(|refusal| (refusal.number, refusal.place)) {
+                Ok(()) => {
+                    let formerly = by_wanted_gaps(&after);
+                    wide += u64::from(check_room(&formerly, flow.number).is_err());
+                    late += u64::from(check_deadline(&formerly, flow.number).is_err());
+                }
+                Err((17, link)) if has_short_period(&site, link) => {
+                    let rate = rate - 1;
+                    over += u64::from(accepted(Flow { rate, ..flow }));
+                }
+                Err((18, _)) if has_short_route(&site, flow.entry) => {
+                    let deadline = deadline + 1;
+                    short += u64::from(accepted(Flow { deadline, ..flow }));
+                }
+                _ => (),
+            }
+        }
+        assert!(wide >= 80 && late >= 100, "{wide} {late}");
+        assert!(over >= 40 && short >= 80, "{over} {short}");
+    }
+
+    /// Slots in which a link moves rate times period, while rate times wanted gap would be more.
+    #[test]
+    fn random_slots_have_queues_above_rate_times_period() {
+        let mut random = Random::from_seed(32);
+        let mut above = 0;
+        for _ in 0..2000 {
+            let (_, site) = site_to_alter(&mut random);
+            let Call::Slot { number, .. } = random_slot(&mut random, &site) else {
+                continue;
+            };
+            let queues = random_counters(&mut random, &site, &[]).into_iter();
+            above += queues
+                .filter(|&(index, queue)| {
+                    let (flow, place) = (index / CELLS, index % CELLS);
+                    let link = site.route_of_flow(flow).get(place).copied();
+                    link.is_some_and(|link| {
+                        let sends = site.sends(link, u64::from(number));
+                        let wide = u64::from(queue) > site.width(flow, link);
+                        sends && wide && has_short_period(&site, link)
+                    })
+                })
+                .count();
+        }
+        assert!(above >= 60, "{above}");
+    }
 
     /// The largest sum of nine cells and arrival among the live flows.
     fn largest_sum(site: &Site, counters: &[u32], arrivals: &[u16]) -> u64 {

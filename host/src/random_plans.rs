@@ -4,7 +4,7 @@ use crate::bytes::{flow_command, node_command};
 use crate::random::Random;
 use crate::random_gaps::{doubtful_gaps, fitting_gaps, roomy_gaps};
 use crate::rules::{
-    children, route, Flow, CAPACITIES, DEADLINES, FLOW_NUMBERS, MOST_DEPTH, MOST_LINKS, RATES,
+    children, deal, route, Flow, CAPACITIES, DEADLINES, FLOW_NUMBERS, MOST_DEPTH, MOST_LINKS, RATES,
 };
 
 /// A plan before it is written as bytes. It may have more nodes or levels than 01 allows.
@@ -12,6 +12,8 @@ struct Draft {
     parents: Vec<u64>,
     capacities: Vec<u64>,
     gaps: Vec<u64>,
+    /// What the slot rule deals for the gaps; under a crowded parent the gaps themselves.
+    periods: Vec<u64>,
     flows: Vec<Flow>,
 }
 
@@ -30,6 +32,7 @@ pub fn random_commands(random: &mut Random) -> Vec<Vec<u8>> {
     let mut draft = Draft {
         capacities: vec![0; links],
         gaps: vec![0; links],
+        periods: vec![0; links],
         parents,
         flows: Vec::new(),
     };
@@ -99,11 +102,12 @@ fn random_flow_numbers(random: &mut Random) -> Vec<usize> {
     numbers
 }
 
-/// At least `least`, which is often taken itself, and within the limit.
-fn at_least(random: &mut Random, least: u64, limit: u64) -> u64 {
+/// At least what periods need, which is often taken itself, and within the limit. Some are below what wanted gaps would need.
+fn at_least(random: &mut Random, [least, wanted]: [u64; 2], limit: u64) -> u64 {
     match random.between(0, 9) {
         0..=3 => least,
-        4..=6 => random.between(least, (least + 20).min(limit)),
+        4 => random.between(least, wanted.clamp(least, limit)),
+        5..=6 => random.between(least, (least + 20).min(limit)),
         7 => limit,
         _ => random.between(least, limit),
     }
@@ -121,25 +125,29 @@ impl Draft {
                 0..=6 => fitting_gaps(random, children.len()),
                 _ => roomy_gaps(random, children.len()),
             };
-            for (node, gap) in children.into_iter().zip(gaps) {
-                self.gaps[node - 1] = gap;
+            let periods = deal(&gaps).map_or(gaps.clone(), |deal| deal.periods);
+            for (index, node) in children.into_iter().enumerate() {
+                self.gaps[node - 1] = gaps[index];
+                self.periods[node - 1] = periods[index];
             }
         }
     }
 
-    fn reserved(&self) -> Vec<u64> {
+    /// The sum of the widths on each link, where a width is the rate times the link's number in a list.
+    fn reserved(&self, of_links: &[u64]) -> Vec<u64> {
         let mut reserved = vec![0; self.parents.len()];
         for flow in &self.flows {
             for link in route(&self.parents, flow.entry) {
-                reserved[link - 1] += flow.rate * self.gaps[link - 1];
+                reserved[link - 1] += flow.rate * of_links[link - 1];
             }
         }
         reserved
     }
 
-    fn wanted_gaps(&self, entry: usize) -> u64 {
-        let links = route(&self.parents, entry);
-        links.iter().map(|link| self.gaps[link - 1]).sum()
+    /// The sum of the links' numbers in a list from a node up to the root.
+    fn sum_up(&self, node: usize, of_links: &[u64]) -> u64 {
+        let links = route(&self.parents, node);
+        links.iter().map(|link| of_links[link - 1]).sum()
     }
 
     /// A flow that would bring a link above the largest capacity is left out, but for a few.
@@ -147,31 +155,38 @@ impl Draft {
         for number in random_flow_numbers(random) {
             let most = random.pick(&[1, 3, 3, 40, *RATES.end()]);
             let entry = 1 + random.index(self.parents.len());
-            let least = self.wanted_gaps(entry).min(*DEADLINES.end());
+            let needed = [&self.periods, &self.gaps].map(|list| self.sum_up(entry, list));
             let flow = Flow {
                 number,
                 entry,
                 rate: random.between(1, most),
-                deadline: at_least(random, least, *DEADLINES.end()),
+                deadline: at_least(random, needed, *DEADLINES.end()),
             };
             self.flows.push(flow);
             let too_much = |&reserved: &u64| reserved > *CAPACITIES.end();
-            if self.reserved().iter().any(too_much) && random.chance(99) {
+            if self.reserved(&self.periods).iter().any(too_much) && random.chance(99) {
                 self.flows.pop();
             }
         }
     }
 
+    /// In some plans each link has room for other flows, whose rates sum to a number of its own.
     fn choose_capacities(&mut self, random: &mut Random) {
         let most = *CAPACITIES.end();
-        for (index, reserved) in self.reserved().into_iter().enumerate() {
-            self.capacities[index] = at_least(random, reserved.clamp(1, most), most);
+        let room = random.pick(&[0, 0, 0, 4, 30]);
+        let lists = [&self.periods, &self.gaps];
+        let reserved = lists.map(|list| self.reserved(list));
+        for index in 0..self.parents.len() {
+            let rate = random.between(0, room);
+            let needed = [0, 1].map(|of| reserved[of][index] + rate * lists[of][index]);
+            let least = needed[0].clamp(1, most);
+            self.capacities[index] = at_least(random, [least, needed[1]], most);
         }
     }
 
     /// One packet less than is reserved, on one link or several.
     fn overfill_a_link(&mut self, random: &mut Random) {
-        let reserved = self.reserved();
+        let reserved = self.reserved(&self.periods);
         let mut full: Vec<usize> = (0..reserved.len())
             .filter(|&index| (2..=*CAPACITIES.end()).contains(&reserved[index]))
             .collect();
@@ -182,11 +197,11 @@ impl Draft {
         }
     }
 
-    /// One slot less than the wanted gaps, for one flow or several.
+    /// One slot less than the periods, for one flow or several.
     fn delay_flows(&mut self, random: &mut Random) {
         for _ in 0..random.pick(&[1, 1, 3]).min(self.flows.len()) {
             let index = random.index(self.flows.len());
-            let sum = self.wanted_gaps(self.flows[index].entry);
+            let sum = self.sum_up(self.flows[index].entry, &self.periods);
             self.flows[index].deadline = (sum - 1).max(1);
         }
     }
@@ -199,5 +214,44 @@ impl Draft {
             flow_command(number, entry, flow.rate, flow.deadline)
         });
         nodes.chain(flows).collect()
+    }
+}
+
+#[cfg(test)]
+mod tests {
+    use super::*;
+    use crate::bytes::{read_dealt, read_plan};
+    use crate::damage::undamaged_plan;
+    use crate::former::by_wanted_gaps;
+    use crate::random_calls::{has_short_period, has_short_route};
+
+    /// Plans that 12 or 13 would refuse by wanted gaps, and such that they refuse for one packet or one slot at short periods.
+    #[test]
+    fn random_plans_are_near_the_border_of_12_and_13() {
+        let mut random = Random::from_seed(33);
+        let [mut wide, mut late, mut over, mut short] = [0; 4];
+        for _ in 0..4000 {
+            let plan = undamaged_plan(&mut random);
+            let Ok(site) = read_dealt(&plan) else {
+                continue;
+            };
+            let answer = read_plan(&plan).map_err(|refusal| (refusal.number, refusal.place));
+            match answer {
+                Ok(_) => {
+                    let formerly = by_wanted_gaps(&site);
+                    wide += u64::from(formerly.check_widths().is_err());
+                    late += u64::from(formerly.check_deadlines().is_err());
+                }
+                Err((12, link)) if has_short_period(&site, link) => {
+                    over += u64::from(site.reserved(link) == site.capacities[link - 1] + 1);
+                }
+                Err((13, flow)) if has_short_route(&site, site.entries[flow] as usize) => {
+                    short += u64::from(site.bound(flow) == site.deadlines[flow] + 1);
+                }
+                _ => (),
+            }
+        }
+        assert!(wide >= 400 && late >= 400, "{wide} {late}");
+        assert!(over >= 40 && short >= 60, "{over} {short}");
     }
 }

@@ -346,6 +346,8 @@ fn odd_form(random: &mut Random, mut line: String) -> String {
 #[cfg(test)]
 mod tests {
     use super::*;
+    use crate::bytes::read_plan;
+    use crate::former::read_formerly;
     use crate::rehearse_lines::rehearse;
 
     #[test]
@@ -360,6 +362,24 @@ mod tests {
         assert!(record.flows_at_bound >= 100, "{record}");
         assert!(record.flows_full >= 100, "{record}");
         assert!(record.broken >= 100, "{record}");
+    }
+
+    /// 02, U2: a flow admitted thanks to periods has every packet through within G. The watch does not object to any.
+    #[test]
+    fn many_sessions_have_plans_that_wanted_gaps_would_refuse() {
+        let (mut random, mut record, mut plans) = (Random::from_seed(35), Record::default(), 0);
+        for _ in 0..300 {
+            let session = random_session(&mut random);
+            assert_eq!(session.objection, None);
+            if read_plan(&session.plan).is_ok() && read_formerly(&session.plan).is_err() {
+                record.add(&session.record);
+                plans += 1;
+            }
+        }
+        assert!(
+            plans >= 50 && record.flows_at_bound >= 50,
+            "{plans} {record}"
+        );
     }
 
     #[test]

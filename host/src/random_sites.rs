@@ -75,6 +75,7 @@ fn random_alteration(random: &mut Random, site: &Site) -> Vec<Triple> {
         6 => with_flow(random, site, number),
         7 => without_last_link(site),
         8 => swapped(random, site),
+        9..=10 => vec![at_a_limit(random, site, flow)],
         _ => vec![any_entry(random, site)],
     }
 }
@@ -86,6 +87,17 @@ fn value_at(site: &Site, field: u64, index: u64) -> u64 {
 fn larger(random: &mut Random, site: &Site, field: u64, index: u64) -> Triple {
     let old = value_at(site, field, index);
     [field, index, old + random.between(1, 300)]
+}
+
+/// A capacity of just the widths on a link of the flow's route or a deadline of just its bound, or one less.
+fn at_a_limit(random: &mut Random, site: &Site, flow: u64) -> Triple {
+    let less = random.between(0, 1);
+    let route = site.route_of_flow(flow as usize);
+    if route.is_empty() || random.chance(50) {
+        return [9, flow, site.bound(flow as usize).saturating_sub(less)];
+    }
+    let link = random.pick(&route);
+    [2, link as u64 - 1, site.reserved(link) - less]
 }
 
 fn without_flow(flow: u64) -> Vec<Triple> {
@@ -142,4 +154,42 @@ fn any_entry(random: &mut Random, site: &Site) -> Triple {
     let limits = [0, 1, 2, 8, 63, 64, 255, 256, 1024, 1025, 65_535, 65_536];
     let value = random.pick(&[&near[..], &near[..], &limits[..]].concat());
     [field, index, value]
+}
+
+#[cfg(test)]
+mod tests {
+    use super::*;
+    use crate::bytes::passes_check_14;
+    use crate::former::by_wanted_gaps;
+    use crate::programs::alter;
+    use crate::random_calls::{has_short_period, has_short_route};
+
+    /// Capacities and deadlines with which a site passes, though not by wanted gaps, and such that are one too small.
+    #[test]
+    fn random_alterations_are_near_the_border_of_12_and_13() {
+        let mut random = Random::from_seed(34);
+        let [mut wide, mut late, mut over, mut short] = [0; 4];
+        for _ in 0..8000 {
+            let (_, site) = site_to_alter(&mut random);
+            let [[field, index, value]] = random_alterations(&mut random, &site)[..] else {
+                continue;
+            };
+            let (mut altered, place) = (site.clone(), index as usize);
+            alter(&mut altered, &[field, index, value]);
+            let formerly = by_wanted_gaps(&altered);
+            match (field, passes_check_14(&altered)) {
+                (2, true) => wide += u64::from(formerly.check_widths().is_err()),
+                (9, true) => late += u64::from(formerly.check_deadlines().is_err()),
+                (2, false) if has_short_period(&site, place + 1) => {
+                    over += u64::from(value + 1 == site.reserved(place + 1));
+                }
+                (9, false) if has_short_route(&site, site.entries[place] as usize) => {
+                    short += u64::from(value + 1 == site.bound(place));
+                }
+                _ => (),
+            }
+        }
+        assert!(wide >= 40 && late >= 40, "{wide} {late}");
+        assert!(over >= 10 && short >= 10, "{over} {short}");
+    }
 }

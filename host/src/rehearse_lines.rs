@@ -170,7 +170,7 @@ mod tests {
 
     #[test]
     fn every_call_is_answered() {
-        let input = "admit 5 2 3 6\nadmit 6 2 1 6\nbound 5\nbound 6\nsender 0 5\nsender 4 0\n\
+        let input = "admit 5 2 3 6\nadmit 6 2 3 6\nbound 5\nbound 6\nsender 0 5\nsender 4 0\n\
             slot 0 5=2 0=1\nslot 1 5=1 6=1\nslot 1 5=1\ncells 0\ncells 5\nrelease 0\nrelease 0\n\
             release 64\nplan\nschedule\nstart\ncells 5\nshow\n";
         let expected =

@@ -1,4 +1,4 @@
-//! The slot rule, the site and the reservations of document 01.
+//! The slot rule and the site of document 01, and its reservations as U2 of document 02 has them.
 
 use std::ops::RangeInclusive;
 
@@ -241,9 +241,9 @@ impl Site {
         slot % self.periods[link - 1] == self.offsets[link - 1]
     }
 
-    /// 01, "Reservations": what a flow reserves on a link of its route.
+    /// 02, U2: on a link of its route a flow reserves rate x period.
     pub fn width(&self, flow: usize, link: usize) -> u64 {
-        self.rates[flow] * self.gaps[link - 1]
+        self.rates[flow] * self.periods[link - 1]
     }
 
     pub fn add_flow(&mut self, flow: Flow) {
@@ -266,19 +266,15 @@ impl Site {
         route(&self.parents, self.entries[flow] as usize)
     }
 
-    fn sum_on_route(&self, node: usize, of_links: &[u64]) -> u64 {
+    /// The sum of the periods from a node up to the root.
+    pub fn periods_up(&self, node: usize) -> u64 {
         let links = route(&self.parents, node);
-        links.iter().map(|link| of_links[link - 1]).sum()
-    }
-
-    /// The sum of the wanted gaps from a node up to the root.
-    pub fn wanted_gaps(&self, node: usize) -> u64 {
-        self.sum_on_route(node, &self.gaps)
+        links.iter().map(|link| self.periods[link - 1]).sum()
     }
 
     /// G of 01, "The list of demand 3".
     pub fn bound(&self, flow: usize) -> u64 {
-        self.sum_on_route(self.entries[flow] as usize, &self.periods)
+        self.periods_up(self.entries[flow] as usize)
     }
 
     /// What the slot rule says under a parent with children.
@@ -288,14 +284,8 @@ impl Site {
         deal(&gaps)
     }
 
-    /// 01, after END: 11 over all parents rising, then 12, then 13.
-    pub fn settle(&mut self) -> Result<(), Refusal> {
-        self.deal_all()?;
-        self.check_widths()?;
-        self.check_deadlines()
-    }
-
-    fn deal_all(&mut self) -> Result<(), Refusal> {
+    /// 11, over all parents rising.
+    pub fn deal_all(&mut self) -> Result<(), Refusal> {
         for parent in 0..=self.links as usize {
             let children = self.children(parent);
             if children.is_empty() {
@@ -312,7 +302,7 @@ impl Site {
         Ok(())
     }
 
-    /// 01, "Reservations": the sum of the widths on a link.
+    /// The sum of the widths on a link.
     pub fn reserved(&self, link: usize) -> u64 {
         self.live_flows()
             .into_iter()
@@ -325,11 +315,13 @@ impl Site {
         self.reserved(link) > self.capacities[link - 1]
     }
 
+    /// 02, U2: G is the number judged.
     pub fn is_late(&self, flow: usize) -> bool {
-        self.wanted_gaps(self.entries[flow] as usize) > self.deadlines[flow]
+        self.bound(flow) > self.deadlines[flow]
     }
 
-    fn check_widths(&self) -> Result<(), Refusal> {
+    /// 12, at the lowest such link.
+    pub fn check_widths(&self) -> Result<(), Refusal> {
         let mut links = self.nodes().into_iter();
         match links.find(|&link| self.is_overfull(link)) {
             Some(link) => refuse(12, link),
@@ -337,7 +329,8 @@ impl Site {
         }
     }
 
-    fn check_deadlines(&self) -> Result<(), Refusal> {
+    /// 13, at the lowest such flow.
+    pub fn check_deadlines(&self) -> Result<(), Refusal> {
         let mut flows = self.live_flows().into_iter();
         match flows.find(|&flow| self.is_late(flow)) {
             Some(flow) => refuse(13, flow),

@@ -2,7 +2,7 @@
 
 mod schedules;
 
-use crate::bytes::{COMMAND_LENGTH, FLOW, NODE};
+use crate::bytes::{read_dealt, COMMAND_LENGTH, FLOW, NODE};
 use crate::calls::CELLS;
 use crate::host_calls::{Call, List};
 
@@ -240,22 +240,19 @@ fn drop_flow(list: &mut List, of: Option<usize>, at: usize) {
     }
 }
 
-/// Each link of the route loses the flow's width, so that as much is left for others. None: there is no FLOW with a route.
+/// Each link of the route loses the flow's width, so that as much is left for others. None: there is no FLOW, or slots are not dealt.
 fn without_flow(plan: &mut Vec<u8>, at: usize) -> Option<()> {
-    let &[FLOW, _, entry, rate, ..] = plan.get(at..at + COMMAND_LENGTH)? else {
+    let site = read_dealt(plan).ok()?;
+    let &[FLOW, number, ..] = plan.get(at..at + COMMAND_LENGTH)? else {
         return None;
     };
-    plan.drain(at..at + COMMAND_LENGTH);
-    let mut node = usize::from(entry);
-    while node > 0 {
-        let command = plan.chunks_exact_mut(COMMAND_LENGTH).nth(node - 1)?;
-        let capacity = u16::from_le_bytes([command[2], command[3]]);
-        let gap = u16::from_le_bytes([command[4], command[5]]);
-        let left = capacity.saturating_sub(gap.saturating_mul(rate.into()));
-        command[2..4].copy_from_slice(&left.max(1).to_le_bytes());
-        let parent = usize::from(command[1]);
-        node = Some(parent).filter(|&parent| parent < node)?;
+    let flow = usize::from(number);
+    for link in site.route_of_flow(flow) {
+        let left = site.capacities[link - 1].saturating_sub(site.width(flow, link));
+        let capacity = (link - 1) * COMMAND_LENGTH + 2;
+        plan[capacity..capacity + 2].copy_from_slice(&(left.max(1) as u16).to_le_bytes());
     }
+    plan.drain(at..at + COMMAND_LENGTH);
     Some(())
 }
 
@@ -399,17 +396,21 @@ mod tests {
         assert_eq!(flow, flow_command(3, 1, 1, 9));
     }
 
-    /// Of 20 packets on link 1 the flow has 3 times 5, of 9 on link 2 all.
+    /// Gaps 5 and 8 have periods of 5. Of 20 packets on link 2 the flow has 3 times 5, of 9 on link 3 all.
     #[test]
     fn a_dropped_flow_leaves_what_was_left() {
-        let nodes = |first, second| [node_command(0, first, 5), node_command(1, second, 3)];
-        let flows = [flow_command(2, 1, 1, 9), flow_command(3, 2, 3, 9)];
-        let mut plan = [nodes(20, 9), flows.clone()].concat().concat();
-        assert_eq!(without_flow(&mut plan, 3 * COMMAND_LENGTH), Some(()));
-        let expected = [&nodes(5, 1)[..], &flows[..1]].concat().concat();
-        assert_eq!(plan, expected);
-        assert_eq!(without_flow(&mut plan, 0), None);
-        assert_eq!(plan, expected);
+        let plan = |second, third, flows: &[Vec<u8>]| {
+            let nodes = [(0, 17, 5), (0, second, 8), (2, third, 3)];
+            let nodes = nodes.map(|(parent, capacity, gap)| node_command(parent, capacity, gap));
+            [&nodes[..], flows, &[vec![END]]].concat().concat()
+        };
+        let flows = [flow_command(2, 2, 1, 9), flow_command(3, 3, 3, 9)];
+        let mut changed = plan(20, 9, &flows);
+        assert_eq!(without_flow(&mut changed, 4 * COMMAND_LENGTH), Some(()));
+        let expected = plan(5, 1, &flows[..1]);
+        assert_eq!(changed, expected);
+        assert_eq!(without_flow(&mut changed, 0), None);
+        assert_eq!(changed, expected);
     }
 
     /// The bytes handed in once are enough.

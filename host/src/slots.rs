@@ -251,6 +251,22 @@ mod tests {
         assert_eq!(p_after(0..17)[8], 30 + 12);
     }
 
+    /// Link 2 wants a gap of 6 and has a period of 4, so at rate 4 it moves 16 of the 25 that wait.
+    #[test]
+    fn a_link_moves_rate_times_period() {
+        let (mut site, mut counters) = (site_p(), [0; COUNTERS]);
+        let flow = Flow {
+            number: 5,
+            entry: 2,
+            rate: 4,
+            deadline: 5,
+        };
+        admission(&mut site, &mut counters, flow).unwrap();
+        counters[45] = 22;
+        slot(&site, &mut counters, &for_flow(5, 3), 1).unwrap();
+        assert_eq!((counters[45], counters[53]), (9, 16));
+    }
+
     #[test]
     fn a_lone_packet_of_slot_10_leaves_in_slot_16() {
         let mut packets = Packets::none();

@@ -443,10 +443,15 @@ mod tests {
         }
     }
 
-    /// Link 1 moves 9 in the place of 12, so that 24 wait in slot 16.
+    /// In each slot in which it sends, link 1 moves 9 in the place of 12, so that 24 wait in slot 16.
     #[test]
     fn a_slot_that_lets_too_many_wait_is_objected_to() {
-        let narrow = on_altered_site(|site, _| site.gaps[0] = 3);
+        let narrow = on_altered_site(|site, number| {
+            if site.sends(1, u64::from(number)) {
+                site.periods[0] = 3;
+                site.offsets[0] = u64::from(number % 3);
+            }
+        });
         let watch = watched(at_rate(0..17), &narrow);
         assert_eq!(slots_with(&watch, Fault::TooManyWait), [16]);
     }

@@ -13,19 +13,20 @@ pub struct FixedFlow {
     pub number: u8,
     pub entry: u8,
     pub rate: u8,
+    deadline: u16,
 }
 
 pub struct FixedSite {
     pub links: usize,
     parents: [u8; NODES],
     capacities: [u16; NODES],
-    pub gaps: [u16; NODES],
+    gaps: [u16; NODES],
     pub offsets: [u16; NODES],
     pub periods: [u16; NODES],
     depths: [u8; NODES],
-    /// The gaps from the node up to the root, summed.
+    /// The periods from the node up to the root, summed.
     pub reaches: [u16; NODES],
-    /// The rates of the flows with this link on their route, summed. Their widths sum to this times the gap.
+    /// The rates of the flows with this link on their route, summed. Their widths sum to this times the period.
     rates: [u16; NODES],
     /// The nodes by rising parent, those of one parent by rising number.
     children: [u8; MOST_LINKS],
@@ -56,40 +57,36 @@ impl FixedSite {
             number: 0,
             entry: 0,
             rate: 0,
+            deadline: 0,
         }; FLOW_NUMBERS],
     };
 
     pub fn read(plan: &[u8]) -> Result<FixedSite, Refusal> {
         let mut site = FixedSite::EMPTY;
-        let late = site.read_commands(plan)?;
+        site.read_commands(plan)?;
         site.deal_all()?;
         site.check_widths()?;
-        if late < FLOW_NUMBERS {
-            return refuse(13, late);
-        }
+        site.check_deadlines()?;
         Ok(site)
     }
 
-    /// For each command 3, 2, 4, 7, 5, 6, 8, for END 9 and 10. Gives the lowest flow that 13 refuses, or 64.
-    fn read_commands(&mut self, plan: &[u8]) -> Result<usize, Refusal> {
-        let mut late = FLOW_NUMBERS;
+    /// For each command 3, 2, 4, 7, 5, 6, 8, for END 9 and 10.
+    fn read_commands(&mut self, plan: &[u8]) -> Result<(), Refusal> {
         for (count, bytes) in plan.chunks(COMMAND_LENGTH).enumerate() {
             let at = count * COMMAND_LENGTH;
             let read = match (bytes[0], bytes) {
-                (END, _) => return self.check_end(plan, at).map(|()| late),
+                (END, _) => return self.check_end(plan, at),
                 (NODE, &[_, parent, a, b, c, d]) => self.add_node(
                     parent,
                     u16::from_le_bytes([a, b]),
                     u16::from_le_bytes([c, d]),
                 ),
-                (FLOW, &[_, number, entry, rate, a, b]) => {
-                    let flow = FixedFlow {
-                        number,
-                        entry,
-                        rate,
-                    };
-                    self.add_flow(flow, u16::from_le_bytes([a, b]), &mut late)
-                }
+                (FLOW, &[_, number, entry, rate, a, b]) => self.add_flow(FixedFlow {
+                    number,
+                    entry,
+                    rate,
+                    deadline: u16::from_le_bytes([a, b]),
+                }),
                 (NODE | FLOW, _) => Err(2),
                 _ => Err(3),
             };
@@ -123,14 +120,13 @@ impl FixedSite {
         self.capacities[node] = capacity;
         self.gaps[node] = gap;
         self.depths[node] = depth;
-        self.reaches[node] = self.reaches[above] + gap;
         Ok(())
     }
 
-    /// Checks 5 and 6; whether 13 refuses the flow is noted.
-    fn add_flow(&mut self, flow: FixedFlow, deadline: u16, late: &mut usize) -> Result<(), u64> {
+    /// Checks 5 and 6.
+    fn add_flow(&mut self, flow: FixedFlow) -> Result<(), u64> {
         let entry = usize::from(flow.entry);
-        if usize::from(flow.number) >= FLOW_NUMBERS || flow.rate == 0 || deadline == 0 {
+        if usize::from(flow.number) >= FLOW_NUMBERS || flow.rate == 0 || flow.deadline == 0 {
             return Err(5);
         }
         if entry == 0 || entry > self.links || self.live >> flow.number != 0 {
@@ -140,9 +136,6 @@ impl FixedSite {
         self.flow_count += 1;
         self.live |= 1 << flow.number;
         self.rates[entry] += u16::from(flow.rate);
-        if self.reaches[entry] > deadline {
-            *late = usize::from(flow.number).min(*late);
-        }
         Ok(())
     }
 
@@ -181,7 +174,7 @@ impl FixedSite {
         &self.children[usize::from(self.begins[parent])..usize::from(self.begins[parent + 1])]
     }
 
-    /// 11 over all parents rising.
+    /// 11 over all parents rising. A parent's number is below its children's, so its own reach is known when they are dealt theirs.
     fn deal_all(&mut self) -> Result<(), Refusal> {
         self.list_children();
         let (mut gaps, mut offsets, mut periods) =
@@ -200,9 +193,11 @@ impl FixedSite {
             if deal(gaps, &mut offsets[..count], &mut periods[..count]).is_none() {
                 return refuse(11, parent);
             }
+            let reach = self.reaches[parent];
             for (place, &node) in children.iter().enumerate() {
                 self.offsets[usize::from(node)] = offsets[place];
                 self.periods[usize::from(node)] = periods[place];
+                self.reaches[usize::from(node)] = reach + periods[place];
             }
         }
         Ok(())
@@ -224,10 +219,19 @@ impl FixedSite {
         }
     }
 
+    /// 13. The flows have rising numbers, so the first that is late is the lowest.
+    fn check_deadlines(&self) -> Result<(), Refusal> {
+        let late = |flow: &&FixedFlow| self.reaches[usize::from(flow.entry)] > flow.deadline;
+        match self.flows().iter().find(late) {
+            Some(flow) => refuse(13, usize::from(flow.number)),
+            None => Ok(()),
+        }
+    }
+
     /// Whether the link has the capacity for its flows and one of this rate besides.
     pub fn has_room(&self, link: usize, rate: u8) -> bool {
         let rates = u32::from(self.rates[link]) + u32::from(rate);
-        rates * u32::from(self.gaps[link]) <= u32::from(self.capacities[link])
+        rates * u32::from(self.periods[link]) <= u32::from(self.capacities[link])
     }
 
     /// By rising number.

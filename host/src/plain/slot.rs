@@ -33,7 +33,7 @@ pub fn pass(site: &FixedSite, counters: &mut Counters, arrivals: &Arrivals, slot
     let mut sending = [0; MOST_LINKS + 1];
     for link in site.nodes() {
         if site.sends(link, slot) {
-            sending[link] = u32::from(site.gaps[link]);
+            sending[link] = u32::from(site.periods[link]);
         }
     }
     for flow in site.flows() {
@@ -44,7 +44,7 @@ pub fn pass(site: &FixedSite, counters: &mut Counters, arrivals: &Arrivals, slot
     }
 }
 
-/// `sending` has the gap of each link that sends, and 0 for the others, so that a width is the rate times this.
+/// `sending` has the period of each link that sends, and 0 for the others, so that a width is the rate times this.
 /// Going up, what the link below moved joins a queue only after that queue's own link was judged.
 fn advance(site: &FixedSite, flow: FixedFlow, cells: &mut [u32], sending: &[u32; MOST_LINKS + 1]) {
     let mut joining = 0;
