@@ -56,7 +56,7 @@ use Rattle.plan.proofs.Laws.SiteSchedules.{site-listed}
 use Rattle.plan.proofs.Laws.Former.{former-form, still-carried, still-punctual}
 
 -- 01's demand 2. Bytes are read to a site just when they are in form and limits, under every parent with children some base fits, on every link
--- the widths sum to at most the capacity, and for every flow the judged gaps sum to at most the deadline; the site is then these nodes
+-- the widths sum to at most the capacity, and for every flow G is at most the deadline; the site is then these nodes
 -- and flows with their schedule.
 pub accepted-when : (bytes : List ℕ) → Bytes bytes → (t : Site)
     → (readOf bytes ≡ accepted t) ↔ ((s : Site) × InForm bytes s × Served s × Carried (scheduled s) × Punctual (scheduled s) × (t ≡ scheduled s))
@@ -95,7 +95,7 @@ pub refused-full : (bytes : List ℕ) → Bytes bytes → (m : ℕ)
     → (readOf bytes ≡ refused 12 m) ↔ ((s : Site) × InForm bytes s × (Served s × FullAt (scheduled s) m))
 refused-full bytes small m = refused-judged bytes small 12 m (omega arith) _ (λ s few g. judge-fills s few g m)
 
--- Refused with 13 at n: no parent is crowded, no link is over, and flow n is the lowest whose judged gaps sum to more than its deadline.
+-- Refused with 13 at n: no parent is crowded, no link is over, and flow n is the lowest whose G is above its deadline.
 pub refused-late : (bytes : List ℕ) → Bytes bytes → (n : ℕ)
     → (readOf bytes ≡ refused 13 n) ↔ ((s : Site) × InForm bytes s × (Served s × Carried (scheduled s) × LateAt (scheduled s) n))
 refused-late bytes small n = refused-judged bytes small 13 n (omega arith) _ (λ s few g. judge-delays s few g n)

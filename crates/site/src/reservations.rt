@@ -76,7 +76,7 @@ fn reserved_of(site: Site) -> Reserved
 }
 
 // 01, 12: the index of the first link with widths above its capacity, or the number of links.
-// 01, 13: the first live flow whose judged gaps sum to more than its deadline, or 64.
+// 01, 13: the first live flow with periods on its route that sum to more than its deadline, or 64.
 pub struct Faults {
     pub over: usize,
     pub late: usize,
@@ -120,7 +120,7 @@ pub fn first_unfit(site: Site, flow: Flow) -> u8
     }
 }
 
-// 01, 18: the judged gaps from the node up to the root, summed.
+// 01, 18: the periods from the node up to the root, summed.
 pub fn gaps_along(site: Site, node: u8) -> u32
     ensures { λ r. ⌜ r ≡ along (gapsJudged site) (route (site .parents) node) ⌝ }
 {
