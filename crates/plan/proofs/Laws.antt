@@ -53,7 +53,7 @@ use Rattle.plan.proofs.Laws.Acceptance.{read-form, read-plan, plan-sche
 use Rattle.plan.proofs.Laws.Refusals.{decode-fails}
 use Rattle.plan.proofs.Laws.Schedules.{without-listed, listed-without, schedule-why, schedule-form, schedule-read}
 use Rattle.plan.proofs.Laws.SiteSchedules.{site-listed}
-use Rattle.plan.proofs.Laws.Former.{former-form, still-carried, still-punctual}
+use Rattle.plan.proofs.Laws.Former.{former-form, still-carried, still-punctual, former-alike}
 
 -- 01's demand 2. Bytes are read to a site just when they are in form and limits, under every parent with children some base fits, on every link
 -- the widths sum to at most the capacity, and for every flow G is at most the deadline; the site is then these nodes
@@ -150,6 +150,10 @@ accepted-still bytes small t e =
     let w = former-form bytes small t .0 e in
     let g = w .1 .formed in
     accepted-when bytes small t .1 (w .0, w .1, w .2, still-carried (w .0) g (w .2) (w .3), still-punctual (w .0) g (w .2) (w .4), w .5)
+
+-- Up to 11 nothing has changed: a plan is refused with such a number just when it was, at the same place.
+pub refused-alike : (bytes : List ℕ) (number place : ℕ) → number ≤ 11 → (readOf bytes ≡ refused number place) ↔ (formerRead bytes ≡ refused number place)
+refused-alike bytes number place l = former-alike bytes number place l
 
 -- 02, U1. Schedule bytes are read to a schedule just when they are the LINKs of at least one link, all within their limits, and END.
 pub schedule-accepted-when : (bytes : List ℕ) → Bytes bytes → (s : Schedule) → (scheduleRead bytes ≡ accepted s) ↔ ScheduleInForm bytes s

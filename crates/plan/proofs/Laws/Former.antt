@@ -16,9 +16,10 @@ use Rattle.pinwheel.proofs.Laws.Search.{first-none}
 use Rattle.site.specs.declared.Site.{Site}
 use Rattle.site.specs.Sites.{used, ofLink, live, withSchedule}
 use Rattle.site.specs.Tree.{has}
-use Rattle.site.specs.Reservations.{gapsJudged, routeOf, widthAt, widthOn, sumTo, load, along}
+use Rattle.site.specs.Reservations.{gapsJudged, routeOf, widthAt, widthOn, sumTo, load, firstOver, along, firstLate}
 use Rattle.site.specs.Words.{Carried, Punctual}
 use Rattle.schedule.specs.Schedule.{gapsUnder, rank, dealtUnder, baseUnder, crowded, firstCrowded, entryDealt, offsetsDealt, periodsDealt, scheduled}
+use Rattle.schedule.specs.Judge.{reserved, judgeOf}
 use Rattle.schedule.specs.Words.{Wellgapped, Served, Timed}
 use Rattle.schedule.proofs.Laws.{period-within, bound-within}
 use Rattle.schedule.proofs.Laws.Judge.{scheduled-bare, served-when}
@@ -27,7 +28,7 @@ use Rattle.limits.specs.Words.{Formed}
 use Rattle.limits.proofs.Laws.Forms.{formed-gapped}
 use Rattle.limits.proofs.Laws.Flows.{live-fits}
 use Rattle.format.specs.Words.{Bytes}
-use Rattle.reader.specs.Read.{decode}
+use Rattle.reader.specs.Read.{decode, judgeForm, readOf}
 use Rattle.plan.specs.Words.{InForm}
 use Rattle.plan.specs.Former.{formerWidth, formerLoad, formerOver, firstFormerOver, formerLate, firstFormerLate, formerReserved, formerJudgeOf, formerForm, formerRead}
 use Rattle.plan.specs.Former.{FormerlyCarried, FormerlyPunctual}
@@ -140,3 +141,39 @@ former-form bytes small t = (
         let form = decode-form bytes small s d in
         let w = former-judged s (form .formed) t .0 q in (s, form, w .0, w .1, w .2, w .3)
     go (refused number place) d q = absurd (refused-not _ refl q)
+
+-- Behind 11 there are 12 and 13 alone, so up to 11 both judgements answer alike.
+high : (t u : Bool) (link flow : ℕ) (s : Site) (number place : ℕ)
+    → cond t (refused 12 link) (cond u (refused 13 flow) (accepted s)) ≡ refused number place → 12 ≤ number
+high true u link flow s number place e = let n : 12 ≡ number = cc in omega arith
+high false true link flow s number place e = let n : 13 ≡ number = cc in omega arith
+high false false link flow s number place e = absurd (refused-not _ e refl)
+
+reserved-high : (s : Site) (number place : ℕ) → reserved s ≡ refused number place → 12 ≤ number
+unfolding reserved
+reserved-high s number place e = high (ltb (firstOver s) (used (s .links))) (ltb (firstLate s) 64) _ _ s number place e
+
+former-high : (s : Site) (number place : ℕ) → formerReserved s ≡ refused number place → 12 ≤ number
+unfolding formerReserved
+former-high s number place e = high (ltb (firstFormerOver s) (used (s .links))) (ltb (firstFormerLate s) 64) _ _ s number place e
+
+judged-alike : (s : Site) (number place : ℕ) → number ≤ 11 → (judgeOf s ≡ refused number place) ↔ (formerJudgeOf s ≡ refused number place)
+unfolding judgeOf formerJudgeOf
+judged-alike s number place l = go (leb (firstCrowded s) (used (s .links)))
+  where
+    go : (t : Bool)
+        → (cond t (refused 11 (firstCrowded s)) (reserved (scheduled s)) ≡ refused number place)
+        ↔ (cond t (refused 11 (firstCrowded s)) (formerReserved (scheduled s)) ≡ refused number place)
+    go true = (λ e. e, λ e. e)
+    go false = (
+      λ e. absurd (omega (arith, reserved-high (scheduled s) number place e)),
+      λ e. absurd (omega (arith, former-high (scheduled s) number place e)),
+    )
+
+pub former-alike : (bytes : List ℕ) (number place : ℕ) → number ≤ 11 → (readOf bytes ≡ refused number place) ↔ (formerRead bytes ≡ refused number place)
+unfolding readOf judgeForm formerRead formerForm
+former-alike bytes number place l = go (decode bytes)
+  where
+    go : (r : Outcome Site) → (judgeForm r ≡ refused number place) ↔ (formerForm r ≡ refused number place)
+    go (accepted s) = judged-alike s number place l
+    go (refused m p) = (λ e. e, λ e. e)
