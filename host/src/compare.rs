@@ -17,7 +17,7 @@ use std::path::{Path, PathBuf};
 use std::process::{Command, Stdio};
 use std::thread;
 
-/// The programs that read lines hold 65,536 bytes of text.
+/// The programs that read lines hold 131,072 bytes of text.
 const MOST_TEXT: usize = 65_000;
 
 /// Input of one or more lines, and what the program has to print for it.

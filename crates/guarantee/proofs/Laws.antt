@@ -4,12 +4,13 @@ pub mod Frame
 pub mod Demand
 pub mod Bytes
 pub mod Reach
-use Prim.Native.Nat.{ℕ, zero, suc, _+_, _-_, _≤_}
+use Prim.Native.Nat.{ℕ, zero, suc, _+_, _-_, _≤_, _<_}
 use mathlib.Core.Path.{_≡_, refl, sym, _∙_, ap}
-use mathlib.Core.Bool.{true}
+use mathlib.Core.Bool.{true, and-eq-true-iff}
 use mathlib.Core.Logic.{_↔_}
 use mathlib.Core.List.{List, [], _∷_, _++_, map}
 use lib.ListN.{length, drop}
+use borrow.Author.Tests.{lt-ltb, ltb-true}
 use native.Mathlib.Omega.{arith}
 use Rattle.pinwheel.specs.Outcome.{Ruling, accepted, refused, Ruled, nothing}
 use Rattle.pinwheel.specs.Search.{total}
@@ -17,8 +18,8 @@ use Rattle.pinwheel.proofs.Laws.Outcomes.{refused-not}
 use Rattle.site.specs.declared.Site.{Site}
 use Rattle.site.specs.declared.Flow.{Flow}
 use Rattle.site.specs.Sites.{live, withFlow, withoutFlow}
-use Rattle.site.specs.Reservations.{routeOf, delayBound}
-use Rattle.site.specs.Words.{OnTime}
+use Rattle.site.specs.Tree.{has}
+use Rattle.site.specs.Reservations.{gapsJudged, routeOf, widthOn, late, delayBound}
 use Rattle.site.proofs.Laws.Reservations.{live-with}
 use Rattle.limits.specs.Check.{flowOf, passesOf}
 use Rattle.limits.proofs.Laws.{passes-sound, flow-taken, bound-within}
@@ -75,13 +76,22 @@ bound-is s f = span-along s (rateOf s f) (routeOf s f)
 pub bound-some : (s : Site) → passesOf s ≡ true → (f : ℕ) → live s f ≡ true → 1 ≤ boundOf own s f
 bound-some s e f l = span-some (rateOf s f) (hopsOf own s f) (own-some s e f l) (own-serves s e f l)
 
--- 02, U2: G is the number judged. 13 asks of a live flow just what demand 3 says of its deadline; and what 18 compares with the deadline of a flow that is to come is its G
--- once it is live.
-pub judged-13 : (s : Site) (f : ℕ) → OnTime s f ↔ (boundOf own s f ≤ deadlineOf s f)
-judged-13 s f = (λ h. rw bound-is h, λ h. rw bound-is at h)
+-- 02, U2: G is the number judged. The test of 13 is just whether a live flow's G, the one of demand 3, is above its deadline; and what 18 compares with the deadline of a
+-- flow that is to come is its G once it is live.
+pub judged-13 : (s : Site) (f : ℕ) → (late s f ≡ true) ↔ ((live s f ≡ true) × (deadlineOf s f < boundOf own s f))
+unfolding late gapsJudged delayBound
+judged-13 s f = (
+  λ e. let w = and-eq-true-iff (live s f) _ .0 e in (w .0, rw bound-is (ltb-true _ _ (w .1))),
+  λ w. rw (w .0) (lt-ltb _ _ (rw bound-is at (w .1))),
+)
 
 pub judged-18 : (s : Site) → passesOf s ≡ true → (g : Flow) → g .number ≤ 63 → boundFor s g ≡ boundOf own (withFlow s g) (g .number)
 judged-18 s e g few = sym (bound-is (withFlow s g) (g .number) ∙ bound-asked s e g few)
+
+-- What 12 and 17 sum of a live flow on a link of its route is what a slot moves of it there at most, which by `width-exact` is rate × period.
+pub width-reserved : (s : Site) (f m : ℕ) → live s f ≡ true → has m (routeOf s f) ≡ true → widthOn s m f ≡ own s (rateOf s f) m .width
+unfolding widthOn
+width-reserved s f m l h = rw (l, h)
 
 -- Demand 3: for every list of calls, refused ones included, that begins where a live flow's nine cells are 0, and of which 01's premises hold, all that 01 claims.
 pub demand3 : (f : ℕ) (σ₀ : State) (l : Log) (σ : State) (run : Run own σ₀ l σ) → Begins f σ₀ → Allowed f (σ₀ .site) l → Kept own f σ₀ l σ run

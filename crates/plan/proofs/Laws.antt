@@ -22,7 +22,7 @@ use lib.Dec.{eqb}
 use lib.ListN.{length, take, drop}
 use borrow.Author.Tests.{le-ltb, ne-eqb, eqb-true, eqb-false}
 use native.Mathlib.Omega.{arith}
-use Rattle.pinwheel.specs.Outcome.{accepted, refused, orElse}
+use Rattle.pinwheel.specs.Outcome.{Outcome, accepted, refused, orElse}
 use Rattle.pinwheel.proofs.Laws.Search.{lt-or-le}
 use Rattle.site.specs.declared.Site.{Site}
 use Rattle.site.specs.Sites.{emptySite}
@@ -37,7 +37,7 @@ use Rattle.limits.proofs.Laws.Passing.{judged-when, passes-parts, judged-passes
 use Rattle.limits.proofs.Laws.Empty.{empty-passes, linkless-empty}
 use Rattle.format.specs.Commands.{sizeOf}
 use Rattle.format.specs.Words.{Bytes}
-use Rattle.reader.specs.Read.{readOf}
+use Rattle.reader.specs.Read.{decode, judgeForm, readOf}
 use Rattle.schedule_file.specs.declared.Schedule.{Schedule}
 use Rattle.schedule_file.specs.Read.{withoutLinks, scheduleRead}
 use Rattle.schedule_file.specs.Check.{schedulePasses}
@@ -47,13 +47,13 @@ use Rattle.writer.proofs.Laws.{written-accepted}
 use Rattle.writer.proofs.Laws.Write.{plan-size, nodes-few, flows-few, fault-passed}
 use Rattle.plan.specs.Words.{InForm, FormFails}
 use Rattle.plan.specs.ScheduleWords.{ScheduleInForm, ScheduleFails}
-use Rattle.plan.specs.Former.{formerRead, FormerlyCarried, FormerlyPunctual}
+use Rattle.plan.specs.Former.{formerForm, formerRead, FormerlyCarried, FormerlyPunctual}
 use Rattle.plan.proofs.Laws.Small.{plan-small, schedule-small}
 use Rattle.plan.proofs.Laws.Acceptance.{read-form, read-plan, plan-scheduled, read-judged, read-refused}
 use Rattle.plan.proofs.Laws.Refusals.{decode-fails}
 use Rattle.plan.proofs.Laws.Schedules.{without-listed, listed-without, schedule-why, schedule-form, schedule-read}
 use Rattle.plan.proofs.Laws.SiteSchedules.{site-listed}
-use Rattle.plan.proofs.Laws.Former.{former-form, still-carried, still-punctual, former-alike}
+use Rattle.plan.proofs.Laws.Former.{former-judged, still-carried, still-punctual, former-plan, former-form, judged-alike}
 
 -- 01's demand 2. Bytes are read to a site just when they are in form and limits, under every parent with children some base fits, on every link
 -- the widths sum to at most the capacity, and for every flow G is at most the deadline; the site is then these nodes
@@ -142,18 +142,26 @@ passes-when s = (
 -- 02, U2. A reading as it was before, by the wanted gaps, in the words of `accepted-when`.
 pub formerly-accepted-when : (bytes : List ℕ) → Bytes bytes → (t : Site)
     → (formerRead bytes ≡ accepted t) ↔ ((s : Site) × InForm bytes s × Served s × FormerlyCarried s × FormerlyPunctual s × (t ≡ scheduled s))
-formerly-accepted-when bytes small t = former-form bytes small t
+formerly-accepted-when bytes small t = (
+  λ e. let w = former-form bytes small t e in let j = former-judged (w .0) (w .1 .formed) t .0 (w .2) in (w .0, w .1, j .0, j .1, j .2, j .3),
+  λ w. rw (w .1 .are) (former-plan (w .0) (w .1 .formed) (w .1 .some) ∙ former-judged (w .0) (w .1 .formed) t .1 (w .2, w .3, w .4, w .5)),
+)
 
 -- All plans accepted before remain so, and read to the same site.
 pub accepted-still : (bytes : List ℕ) → Bytes bytes → (t : Site) → formerRead bytes ≡ accepted t → readOf bytes ≡ accepted t
 accepted-still bytes small t e =
-    let w = former-form bytes small t .0 e in
+    let w = formerly-accepted-when bytes small t .0 e in
     let g = w .1 .formed in
     accepted-when bytes small t .1 (w .0, w .1, w .2, still-carried (w .0) g (w .2) (w .3), still-punctual (w .0) g (w .2) (w .4), w .5)
 
 -- Up to 11 nothing has changed: a plan is refused with such a number just when it was, at the same place.
 pub refused-alike : (bytes : List ℕ) (number place : ℕ) → number ≤ 11 → (readOf bytes ≡ refused number place) ↔ (formerRead bytes ≡ refused number place)
-refused-alike bytes number place l = former-alike bytes number place l
+unfolding readOf judgeForm formerRead formerForm
+refused-alike bytes number place l = go (decode bytes)
+  where
+    go : (r : Outcome Site) → (judgeForm r ≡ refused number place) ↔ (formerForm r ≡ refused number place)
+    go (accepted s) = judged-alike s number place l
+    go (refused m p) = (λ e. e, λ e. e)
 
 -- 02, U1. Schedule bytes are read to a schedule just when they are the LINKs of at least one link, all within their limits, and END.
 pub schedule-accepted-when : (bytes : List ℕ) → Bytes bytes → (s : Schedule) → (scheduleRead bytes ≡ accepted s) ↔ ScheduleInForm bytes s

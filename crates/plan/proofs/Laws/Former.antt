@@ -1,6 +1,6 @@
 -- A plan that was accepted by wanted gaps is accepted by periods: no period is above its wanted gap, so no width and no sum along a route has grown.
 use Prim.Native.Nat.{ℕ, zero, suc, _+_, _*_, _≤_}
-use mathlib.Core.Path.{_≡_, refl, _∙_, ap}
+use mathlib.Core.Path.{_≡_, refl}
 use mathlib.Core.Bool.{Bool, true, false, cond, _&&_}
 use mathlib.Core.List.{List}
 use mathlib.Core.Logic.{_↔_}
@@ -28,7 +28,8 @@ use Rattle.limits.specs.Words.{Formed}
 use Rattle.limits.proofs.Laws.Forms.{formed-gapped}
 use Rattle.limits.proofs.Laws.Flows.{live-fits}
 use Rattle.format.specs.Words.{Bytes}
-use Rattle.reader.specs.Read.{decode, judgeForm, readOf}
+use Rattle.reader.specs.Read.{decode}
+use Rattle.writer.specs.Write.{planBytes}
 use Rattle.plan.specs.Words.{InForm}
 use Rattle.plan.specs.Former.{formerWidth, formerLoad, formerOver, firstFormerOver, formerLate, firstFormerLate, formerReserved, formerJudgeOf, formerForm, formerRead}
 use Rattle.plan.specs.Former.{FormerlyCarried, FormerlyPunctual}
@@ -60,7 +61,7 @@ module _ (s : Site) (g : Formed s) where
       go n true h = le-ltb _ _ (h refl)
       go n false h = refl
 
-  former-judged : (t : Site) → (formerJudgeOf s ≡ accepted t) ↔ (Served s × FormerlyCarried s × FormerlyPunctual s × (t ≡ scheduled s))
+  pub former-judged : (t : Site) → (formerJudgeOf s ≡ accepted t) ↔ (Served s × FormerlyCarried s × FormerlyPunctual s × (t ≡ scheduled s))
   unfolding formerJudgeOf formerReserved scheduled withSchedule
   former-judged t = (there, back)
     where
@@ -125,21 +126,17 @@ former-bare : (s : Site) (os ps : List ℕ) → formerJudgeOf (withSchedule s os
 unfolding formerJudgeOf withSchedule firstCrowded crowded baseUnder dealtUnder gapsUnder
 former-bare s os ps = rw (scheduled-bare s os ps)
 
--- A former reading in words: bytes in form, and what the judgement accepted.
-pub former-form : (bytes : List ℕ) → Bytes bytes → (t : Site)
-    → (formerRead bytes ≡ accepted t) ↔ ((s : Site) × InForm bytes s × Served s × FormerlyCarried s × FormerlyPunctual s × (t ≡ scheduled s))
+-- A former reading in its two steps, as `read-plan` and `read-form` have those of a reading now.
+pub former-plan : (s : Site) → Formed s → 1 ≤ s .links → formerRead (planBytes s) ≡ formerJudgeOf s
 unfolding formerRead formerForm
-former-form bytes small t = (
-  λ e. go (decode bytes) refl e,
-  λ w. let f = w .1 .formed in
-      rw (w .1 .are) (ap formerForm (decode-plan (w .0) f (w .1 .some)) ∙ former-bare (w .0) _ _ ∙ former-judged (w .0) f t .1 (w .2, w .3, w .4, w .5)),
-)
+former-plan s g some = rw (decode-plan s g some) (former-bare s _ _)
+
+pub former-form : (bytes : List ℕ) → Bytes bytes → (t : Site) → formerRead bytes ≡ accepted t → (s : Site) × InForm bytes s × (formerJudgeOf s ≡ accepted t)
+unfolding formerRead formerForm
+former-form bytes small t e = go (decode bytes) refl e
   where
-    go : (r : Outcome Site) → decode bytes ≡ r → formerForm r ≡ accepted t
-        → (s : Site) × InForm bytes s × Served s × FormerlyCarried s × FormerlyPunctual s × (t ≡ scheduled s)
-    go (accepted s) d q =
-        let form = decode-form bytes small s d in
-        let w = former-judged s (form .formed) t .0 q in (s, form, w .0, w .1, w .2, w .3)
+    go : (r : Outcome Site) → decode bytes ≡ r → formerForm r ≡ accepted t → (s : Site) × InForm bytes s × (formerJudgeOf s ≡ accepted t)
+    go (accepted s) d q = (s, decode-form bytes small s d, q)
     go (refused number place) d q = absurd (refused-not _ refl q)
 
 -- Behind 11 there are 12 and 13 alone, so up to 11 both judgements answer alike.
@@ -157,7 +154,7 @@ former-high : (s : Site) (number place : ℕ) → formerReserved s ≡ refused n
 unfolding formerReserved
 former-high s number place e = high (ltb (firstFormerOver s) (used (s .links))) (ltb (firstFormerLate s) 64) _ _ s number place e
 
-judged-alike : (s : Site) (number place : ℕ) → number ≤ 11 → (judgeOf s ≡ refused number place) ↔ (formerJudgeOf s ≡ refused number place)
+pub judged-alike : (s : Site) (number place : ℕ) → number ≤ 11 → (judgeOf s ≡ refused number place) ↔ (formerJudgeOf s ≡ refused number place)
 unfolding judgeOf formerJudgeOf
 judged-alike s number place l = go (leb (firstCrowded s) (used (s .links)))
   where
@@ -169,11 +166,3 @@ judged-alike s number place l = go (leb (firstCrowded s) (used (s .links)))
       λ e. absurd (omega (arith, reserved-high (scheduled s) number place e)),
       λ e. absurd (omega (arith, former-high (scheduled s) number place e)),
     )
-
-pub former-alike : (bytes : List ℕ) (number place : ℕ) → number ≤ 11 → (readOf bytes ≡ refused number place) ↔ (formerRead bytes ≡ refused number place)
-unfolding readOf judgeForm formerRead formerForm
-former-alike bytes number place l = go (decode bytes)
-  where
-    go : (r : Outcome Site) → (judgeForm r ≡ refused number place) ↔ (formerForm r ≡ refused number place)
-    go (accepted s) = judged-alike s number place l
-    go (refused m p) = (λ e. e, λ e. e)
