@@ -2,9 +2,9 @@
 -- The modules named here hold a law for each answer of the code, and the lemmas.
 pub mod Answers
 pub mod Again
-use Prim.Native.Nat.{ℕ, _+_, _*_, _≤_, _<_}
+use Prim.Native.Nat.{ℕ, zero, suc, _+_, _*_, _≤_, _<_}
 use mathlib.Core.Path.{_≡_, refl, sym, _∙_, ap}
-use mathlib.Core.Bool.{true, not}
+use mathlib.Core.Bool.{Bool, true, not, _||_}
 use mathlib.Core.List.{List, []}
 use mathlib.Core.Logic.{_↔_}
 use lib.Dec.{eqb, ltb}
@@ -12,20 +12,22 @@ use lib.ListN.{length, getD}
 use lib.Seq.{getD-set-same}
 use borrow.Author.Tests.{lt-ltb, ne-eqb, ltb-true, ltb-false, eqb-true, eqb-false, not-true, not-false}
 use native.Mathlib.Omega.{arith}
-use Rattle.pinwheel.specs.Outcome.{Ruling, accepted, refused, settled, none, Ruled, nothing}
+use Rattle.pinwheel.specs.Outcome.{Ruling, accepted, refused, checked, settled, none, Ruled, nothing}
 use Rattle.pinwheel.proofs.Laws.Outcomes.{past, checked-past, settled-accepted, settled-refused, ruled-check, ruled-test, ruled-end}
 use Rattle.site.specs.declared.Site.{Site}
 use Rattle.site.specs.declared.Flow.{Flow}
-use Rattle.site.specs.Sites.{live, withFlow, withoutFlow}
+use Rattle.site.specs.Sites.{emptySite, live, withFlow, withoutFlow}
 use Rattle.site.specs.Reservations.{gapsJudged, routeOf, widthAt, along, delayBound}
 use Rattle.site.specs.Words.{HasRoom, RoomAlong, UnfitAt}
 use Rattle.site.proofs.Laws.{room-when, unfit-when}
 use Rattle.site.proofs.Laws.Tree.{has-when, route-some}
 use Rattle.site.proofs.Laws.Reservations.{live-with}
-use Rattle.limits.specs.Limits.{flowLimits}
+use Rattle.limits.specs.Limits.{misplaced, flowLimits}
+use Rattle.limits.specs.Words.{FlowWithin}
 use Rattle.limits.specs.Check.{flowOf, passesOf, callFault}
 use Rattle.limits.proofs.Laws.{passes-sound, call-when, call-first, flow-first, flow-added, flow-back}
-use Rattle.limits.proofs.Laws.Forms.{flow-good}
+use Rattle.limits.proofs.Laws.Forms.{flow-within, flow-good}
+use Rattle.limits.proofs.Laws.Empty.{empty-passes}
 use Rattle.counters.specs.Blocks.{cellsOf, withCells, zeros}
 use Rattle.counters.proofs.Laws.{length-with, block-same, block-other, length-zeros}
 use Rattle.admission.specs.Calls.{change, routeFor, unfitLink, flowRuling, admitRuling, admitOf, numberRuling, releaseRuling, releaseOf}
@@ -112,6 +114,16 @@ releases-first s counters n o =
 pub bound-asked : (s : Site) → passesOf s ≡ true → (f : Flow) → f .number ≤ 63 → delayBound (withFlow s f) (f .number) ≡ boundFor s f
 unfolding delayBound routeOf withFlow
 bound-asked s e f few = rw (getD-set-same (s .entries) (f .number) (f .entry) 0 (omega (arith, passes-sound s .0 e .formed .shape .entries)))
+
+-- 02, U3. Nobody enters at the site without links: 6 refuses every flow that 1 and 5 let pass, and nothing changes.
+pub admit-unlinked : (counters : List ℕ) (f : Flow) → length counters ≡ 576 → FlowWithin f → admitOf emptySite counters f ≡ (refused 6 0, emptySite, counters)
+unfolding admitOf admitRuling flowRuling flowLimits misplaced change settled checked
+admit-unlinked counters f long within =
+    rw (call-when emptySite counters .1 (long, passes-sound emptySite .0 empty-passes), flow-within f .1 within, nowhere (f .entry) (ltb (f .number) 0))
+  where
+    nowhere : (entry : ℕ) (low : Bool) → (eqb entry 0 || (ltb 0 entry || low)) ≡ true
+    nowhere zero low = refl
+    nowhere (suc entry) low = refl
 
 -- What a change tells that was accepted, and one that was refused: by any ruling.
 module _ (r : Ruling) (next s t : Site) (new counters ds : List ℕ) where

@@ -18,9 +18,8 @@ use Rattle.site.specs.declared.Flow.{Flow}
 use Rattle.limits.specs.Check.{passesOf}
 use Rattle.format.specs.Words.{Bytes}
 use Rattle.reader.specs.Read.{readOf}
-use Rattle.writer.specs.Write.{planBytes, siteFault, writtenIf, scheduleWritten}
+use Rattle.writer.specs.Write.{planBytes, writtenIf, scheduleWritten}
 use Rattle.writer.proofs.Laws.{written-accepted}
-use Rattle.writer.proofs.Laws.Write.{fault-passed}
 use Rattle.schedule_file.specs.declared.Schedule.{Schedule}
 use Rattle.schedule_file.specs.Read.{ofLists, scheduleRead}
 use Rattle.plan.proofs.Laws.{written-read, schedule-made, schedule-again}
@@ -73,9 +72,7 @@ of-list {A = A} list n otherwise b a differs e = go (eqb (length list) n) refl e
 written-reads : (s : Site) (out new : List ℕ) (size : ℕ) → writtenIf s (planBytes s) out ≡ (accepted size, new)
     → (readOf (take size new) ≡ accepted s) × (drop size new ≡ drop size out)
 written-reads s out new size e =
-    let w = written-accepted (siteFault s) (planBytes s) out new size e in
-    let p = fault-passed (passesOf s) (s .links) (w .0) in
-    (ap readOf (w .2) ∙ written-read s (p .0) (p .1) .1, w .3)
+    let w = written-accepted (passesOf s) (planBytes s) out new size e in (ap readOf (w .2) ∙ written-read s (w .0) .1, w .3)
 
 -- What a change comes to where its bytes were written.
 abbrev Changed : List ℕ → (Site → Ruling × Site × List ℕ) → List ℕ → ℕ → List ℕ → List ℕ → Type 0

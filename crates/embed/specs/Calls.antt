@@ -66,7 +66,7 @@ scheduleReadFrom file offsets periods =
     (ofLength periods 63 (refused 1 0, offsets, periods)
     (byReading (scheduleRead file) (λ number place. (refused number place, offsets, periods)) linksOf))
 
--- Write one: 1 for both lists, 14, 9, and last 1 for the slice.
+-- Write one: 1 for both lists, 14, and last 1 for the slice.
 unfoldable pub scheduleWrittenFrom : ℕ → List ℕ → List ℕ → List ℕ → Outcome ℕ × List ℕ
 scheduleWrittenFrom links offsets periods out =
     ofLength offsets 63 (refused 1 0, out)

@@ -1,10 +1,7 @@
 -- What the inner functions tell their callers. The public promises cite none of this.
 use Prim.Native.Nat.{ℕ, _≤_}
 use mathlib.Core.Path.{_≡_}
-use mathlib.Core.Bool.{true}
 use Rattle.pinwheel.specs.Outcome.{Outcome, accepted, refused}
-use Rattle.site.specs.declared.Site.{Site}
-use Rattle.limits.specs.Check.{passesOf}
 
 -- A refusal of this outcome has room in an answer.
 pub record Tellable {A : Type 0} (o : Outcome A) : Type 0 where
@@ -13,8 +10,3 @@ pub record Tellable {A : Type 0} (o : Outcome A) : Type 0 where
 -- So has its value.
 pub record Short (o : Outcome ℕ) : Type 0 where
   pub low : (value : ℕ) → o ≡ accepted value → value ≤ 763
-
--- A site that some plan bytes read to.
-pub record Standing (s : Site) : Type 0 where
-  pub sound : passesOf s ≡ true
-  pub some : 1 ≤ s .links

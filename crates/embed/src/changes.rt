@@ -6,16 +6,17 @@ use site::Flow;
 use site::Site;
 use writer::Written;
 ghost use mathlib.Core.Path.{_≡_};
+ghost use mathlib.Core.Bool.{true};
 ghost use Prim.Native.Nat.{_<_};
 ghost use lib.ListN.{length};
+ghost use Rattle.limits.specs.Check.{passesOf};
 ghost use Rattle.counters.specs.Blocks.{withCells, zeros};
 ghost use Rattle.admission.specs.Calls.{admitOf, releaseOf};
 ghost use Rattle.writer.specs.Write.{planBytes, scheduleOf, scheduleBytes, writtenIf};
 ghost use Rattle.embed.specs.Calls.{told, stored, rewritten};
-ghost use Rattle.embed.specs.Inner.{Standing};
 
 pub(crate) fn scheduled(site: Site, out: &mut [u8]) -> u64
-    requires { ⌜ Standing site ⌝ }
+    requires { ⌜ passesOf site ≡ true ⌝ }
     ensures { λ r. ⌜ (told r, now (out .exit)) ≡ writtenIf site (scheduleBytes (scheduleOf site)) (now (out .entry)) ⌝ }
 {
     answers::size(writer::encode_schedule(writer::schedule_of(site), out))
@@ -23,7 +24,7 @@ pub(crate) fn scheduled(site: Site, out: &mut [u8]) -> u64
 
 // The plan of the changed site. The cells are cleared last, since too short a slice is to change nothing.
 fn rewrite(next: Site, counters: &mut [u32], number: u8, out: &mut [u8]) -> u64
-    requires { ⌜ Standing next × (length (now counters) ≡ 576) × (number < 64) ⌝ }
+    requires { ⌜ (passesOf next ≡ true) × (length (now counters) ≡ 576) × (number < 64) ⌝ }
     ensures { λ r. ⌜ (told r, now (counters .exit), now (out .exit))
         ≡ stored (writtenIf next (planBytes next) (now (out .entry))) (withCells number (zeros 9) (now (counters .entry))) (now (counters .entry)) ⌝ }
 {
@@ -38,7 +39,7 @@ fn rewrite(next: Site, counters: &mut [u32], number: u8, out: &mut [u8]) -> u64
 }
 
 pub(crate) fn admitted(site: Site, counters: &mut [u32], flow: Flow, out: &mut [u8]) -> u64
-    requires { ⌜ Standing site × (length (now counters) ≡ 576) ⌝ }
+    requires { ⌜ (passesOf site ≡ true) × (length (now counters) ≡ 576) ⌝ }
     ensures { λ r. ⌜ (told r, now (counters .exit), now (out .exit))
         ≡ rewritten (admitOf site (now (counters .entry)) flow) (now (counters .entry)) (now (out .entry)) ⌝ }
 {
@@ -50,7 +51,7 @@ pub(crate) fn admitted(site: Site, counters: &mut [u32], flow: Flow, out: &mut [
 }
 
 pub(crate) fn released(site: Site, counters: &mut [u32], number: u8, out: &mut [u8]) -> u64
-    requires { ⌜ Standing site × (length (now counters) ≡ 576) ⌝ }
+    requires { ⌜ (passesOf site ≡ true) × (length (now counters) ≡ 576) ⌝ }
     ensures { λ r. ⌜ (told r, now (counters .exit), now (out .exit))
         ≡ rewritten (releaseOf site (now (counters .entry)) number) (now (counters .entry)) (now (out .entry)) ⌝ }
 {

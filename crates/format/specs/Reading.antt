@@ -23,9 +23,9 @@ faultOf k bytes at a =
     (cond (ltb (length bytes) (at + k .size (getD bytes at 0))) 2
     (k .later bytes at a))
 
--- 01, the checks of END, 9 and 10: END at index `at` of so many bytes, behind so many links.
-unfoldable pub ended : {B : Type 0} → ℕ → ℕ → ℕ → B → Outcome B
-ended size at links b = cond (eqb links 0) (refused 9 at) (cond (ltb (at + 1) size) (refused 10 (at + 1)) (accepted b))
+-- 01, the check of END, 10: END at index `at` of so many bytes. By 02, U3, nothing need stand before it.
+unfoldable pub ended : {B : Type 0} → ℕ → ℕ → B → Outcome B
+ended size at b = cond (ltb (at + 1) size) (refused 10 (at + 1)) (accepted b)
 
 -- One command after the other from index `at` on; END is FF. Where the bytes end without END: 2, at their length. The first number is how many commands are
 -- allowed; the number of bytes is always enough.

@@ -256,12 +256,10 @@ pub release-fresh : (v : Service) (σ σ′ : State) (n : ℕ) → Promise v (re
 unfolding Promise flowIfLive flowOf withoutFlow
 release-fresh v σ σ′ n p =
     let w = release-accepted (σ .site) (σ′ .site) (σ .counters) (σ′ .counters) n p in
-    let sound = w .0 .sound in
-    let fits = live-fits (σ .site) (sound .formed) n (w .0 .living) in
-    let some : 1 ≤ σ .site .links = omega (arith, fits .entry-some, fits .entry-most) in (
+    let sound = w .0 .sound in (
       plan-parts (σ .site) n (w .0 .few) ∙ rw (w .0 .living),
       rw (w .1, ← plan-without (σ .site) n (w .0 .few) (sound .formed .shape .states))
-          (plan.written-read (withoutFlow (σ .site) n) (flow-taken (σ .site) (passes-sound (σ .site) .1 sound) n) some .1),
+          (plan.written-read (withoutFlow (σ .site) n) (flow-taken (σ .site) (passes-sound (σ .site) .1 sound) n) .1),
     )
 
 -- The reader and admission judge alike. The nodes of a site that passes check 14 pass it alone, and from them the site is reached by admitting its live flows by rising

@@ -1,4 +1,4 @@
--- 01, check 14, as tests on the entries of a site: whether it is empty or what some plan reads to. That these tests say just
+-- 01, check 14, as tests on the entries of a site: whether some plan reads to it, as END alone does to the empty site. That these tests say just
 -- this is the law `passes-when` of crate `plan`.
 use Prim.Native.Nat.{ℕ}
 use mathlib.Core.Bool.{Bool, true, false, not, cond, _&&_}

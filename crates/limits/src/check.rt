@@ -121,7 +121,7 @@ fn judged_as_it_is(site: Site) -> bool
     }
 }
 
-// Whether the site is empty or one that some plan bytes read to: every entry of every list is looked at.
+// Whether some plan bytes read to the site: every entry of every list is looked at.
 pub fn passes(site: Site) -> bool
     ensures { λ r. ⌜ r ≡ passesOf site ⌝ }
 {

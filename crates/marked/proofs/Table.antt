@@ -18,7 +18,7 @@ use Rattle.format.specs.Bytes.{numberAt, bytesOf}
 use Rattle.format.specs.Reading.{faultOf, ended, readFrom}
 use Rattle.reader.specs.Read.{nodeAt, flowAt, nodeFault, flowFault, laterFault}
 use Rattle.reader.specs.Read.{withNode, nodeAdded, flowAdded, after, decode, judgeForm, readOf}
-use Rattle.writer.specs.Write.{linkBytes, scheduleOf, scheduleBytes, written, handedFault, writtenUnless}
+use Rattle.writer.specs.Write.{linkBytes, scheduleOf, scheduleBytes, written, handed}
 use Rattle.limits.specs.Check.{shaped, nodeOf, flowOf, illNode, illFlow, firstIllNode, firstIllFlow, formed, same, accepts, stands, passesOf, callFault}
 use Rattle.counters.specs.Blocks.{block, withBlock, cellsOf, withCells, zeros}
 use Rattle.admission.specs.Calls.{change, flowRuling, admitRuling, admitOf}
@@ -29,5 +29,5 @@ use Rattle.simulation.specs.Slot.{recounted, overflows, firstOverflow, unexpect
 use Rattle.marked.specs.Table.{Holds, table}
 
 pub table-holds : All Holds table
-unfolding All moved arrived delivering passed step hopsAlong hopsOf cellsOf linkSends recounted overflows firstOverflow unexpected firstUnexpected arrivalsRuling slotRuling cellsAfter slotOf checked settled orElse block withBlock withCells zeros unfit firstUnfit callFault change flowRuling admitRuling admitOf last first any total largest least smallest exponent period sum limit fits base periodsOf sends earlier taken freeOffset turn level levels offsetsFor offsetsOf badGap firstBad dealt ofLink live withFlow withSchedule up depthIn depthOf climb route has used gapsFrom gapsUnder rank dealtUnder baseOf baseUnder crowded firstCrowded entryDealt listed offsetsDealt periodsDealt scheduled gapsJudged routeOf widthAt widthOn sumTo load over firstOver along late firstLate withSite reserved judgeOf numberAt bytesOf nodeAt flowAt badNode badFlow nodeLimits misplaced flowLimits nodeFault flowFault laterFault sizeOf faultOf ended readFrom withNode nodeAdded flowAdded after decode judgeForm readOf linkBytes joined scheduleOf scheduleBytes written handedFault writtenUnless shaped nodeOf flowOf illNode illFlow firstIllNode firstIllFlow formed same accepts stands passesOf
+unfolding All moved arrived delivering passed step hopsAlong hopsOf cellsOf linkSends recounted overflows firstOverflow unexpected firstUnexpected arrivalsRuling slotRuling cellsAfter slotOf checked settled orElse block withBlock withCells zeros unfit firstUnfit callFault change flowRuling admitRuling admitOf last first any total largest least smallest exponent period sum limit fits base periodsOf sends earlier taken freeOffset turn level levels offsetsFor offsetsOf badGap firstBad dealt ofLink live withFlow withSchedule up depthIn depthOf climb route has used gapsFrom gapsUnder rank dealtUnder baseOf baseUnder crowded firstCrowded entryDealt listed offsetsDealt periodsDealt scheduled gapsJudged routeOf widthAt widthOn sumTo load over firstOver along late firstLate withSite reserved judgeOf numberAt bytesOf nodeAt flowAt badNode badFlow nodeLimits misplaced flowLimits nodeFault flowFault laterFault sizeOf faultOf ended readFrom withNode nodeAdded flowAdded after decode judgeForm readOf linkBytes joined scheduleOf scheduleBytes written handed shaped nodeOf flowOf illNode illFlow firstIllNode firstIllFlow formed same accepts stands passesOf
 table-holds = (refl, (refl, (refl, (refl, (refl, (refl, (refl, (refl, (refl, (refl, (refl, (refl, (refl, (refl, tt))))))))))))))

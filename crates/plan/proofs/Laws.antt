@@ -15,17 +15,16 @@ pub mod Near
 pub mod Former
 use Prim.Native.Nat.{ℕ, _+_, _≤_}
 use mathlib.Core.Path.{_≡_, refl, sym, _∙_, ap}
-use mathlib.Core.Bool.{Bool, true, false, cond, false≢true}
-use mathlib.Core.List.{List, _++_}
-use mathlib.Core.Logic.{_⊎_, inl, inr, ⊎-elim, _↔_}
-use lib.Dec.{eqb}
+use mathlib.Core.Bool.{Bool, true, false, false≢true}
+use mathlib.Core.List.{List, [], _∷_, _++_}
+use mathlib.Core.Logic.{⊎-elim, _↔_}
 use lib.ListN.{length, take, drop}
-use borrow.Author.Tests.{le-ltb, ne-eqb, eqb-true, eqb-false}
+use borrow.Author.Tests.{le-ltb}
 use native.Mathlib.Omega.{arith}
 use Rattle.pinwheel.specs.Outcome.{Outcome, accepted, refused, orElse}
-use Rattle.pinwheel.proofs.Laws.Search.{lt-or-le}
+use Rattle.pinwheel.specs.Search.{joined}
 use Rattle.site.specs.declared.Site.{Site}
-use Rattle.site.specs.Sites.{emptySite}
+use Rattle.site.specs.Sites.{emptySite, live}
 use Rattle.schedule.specs.Schedule.{scheduled}
 use Rattle.schedule.specs.Judge.{withSite, judgeOf}
 use Rattle.site.specs.Words.{Carried, FullAt, Punctual, LateAt}
@@ -36,22 +35,24 @@ use Rattle.limits.proofs.Laws.Forms.{formed-gapped}
 use Rattle.limits.proofs.Laws.Passing.{judged-when, passes-parts, judged-passes}
 use Rattle.limits.proofs.Laws.Empty.{empty-passes, linkless-empty}
 use Rattle.format.specs.Commands.{sizeOf}
+use Rattle.format.specs.Reading.{ended, readFrom}
 use Rattle.format.specs.Words.{Bytes}
 use Rattle.reader.specs.Read.{decode, judgeForm, readOf}
 use Rattle.schedule_file.specs.declared.Schedule.{Schedule}
 use Rattle.schedule_file.specs.Read.{withoutLinks, scheduleRead}
 use Rattle.schedule_file.specs.Check.{schedulePasses}
 use Rattle.schedule_file.proofs.Laws.{passes-listed}
-use Rattle.writer.specs.Write.{planBytes, scheduleOf, scheduleBytes, written, handedFault, siteFault, scheduleFault, writtenUnless, writtenIf, scheduleWritten}
-use Rattle.writer.proofs.Laws.{written-accepted}
-use Rattle.writer.proofs.Laws.Write.{plan-size, nodes-few, flows-few, fault-passed}
-use Rattle.plan.specs.Words.{InForm, FormFails}
+use Rattle.writer.specs.Write.{flowIfLive, commandBytes, planBytes, scheduleOf, scheduleBytes, written, handed, writtenIf, scheduleWritten}
+use Rattle.writer.proofs.Laws.{written-accepted, written-refused}
+use Rattle.writer.proofs.Laws.Write.{plan-size, nodes-few, flows-few}
+use Rattle.plan.specs.Words.{InForm, FormFails, no-end, command, more}
 use Rattle.plan.specs.ScheduleWords.{ScheduleInForm, ScheduleFails}
 use Rattle.plan.specs.Former.{formerForm, formerRead, FormerlyCarried, FormerlyPunctual}
 use Rattle.plan.proofs.Laws.Small.{plan-small, schedule-small}
 use Rattle.plan.proofs.Laws.Acceptance.{read-form, read-plan, plan-scheduled, read-judged, read-refused}
 use Rattle.plan.proofs.Laws.Refusals.{decode-fails}
-use Rattle.plan.proofs.Laws.Schedules.{without-listed, listed-without, schedule-why, schedule-form, schedule-read}
+use Rattle.plan.proofs.Laws.Faults.{first-numbers}
+use Rattle.plan.proofs.Laws.Schedules.{without-listed, listed-without, check-numbers, schedule-why, schedule-form, schedule-read}
 use Rattle.plan.proofs.Laws.SiteSchedules.{site-listed}
 use Rattle.plan.proofs.Laws.Former.{former-judged, still-carried, still-punctual, former-plan, former-form, judged-alike}
 
@@ -62,7 +63,7 @@ pub accepted-when : (bytes : List ℕ) → Bytes bytes → (t : Site)
     → (readOf bytes ≡ accepted t) ↔ ((s : Site) × InForm bytes s × Served s × Carried (scheduled s) × Punctual (scheduled s) × (t ≡ scheduled s))
 accepted-when bytes small t = (
   λ e. let w = read-form bytes small t e in let j = judged-when (w .0) (w .1 .formed) .0 (w .2) in (w .0, w .1, j .0, j .1, j .2, w .3),
-  λ w. rw (w .1 .are, w .5) (read-plan (w .0) (w .1 .formed) (w .1 .some) ∙ judged-when (w .0) (w .1 .formed) .1 (w .2, w .3, w .4)),
+  λ w. rw (w .1 .are, w .5) (read-plan (w .0) (w .1 .formed) ∙ judged-when (w .0) (w .1 .formed) .1 (w .2, w .3, w .4)),
 )
 
 -- Refused with 2 to 10: all commands before the place passed their checks, and of the checks of the command there, or of the end, this is the first
@@ -111,15 +112,15 @@ pub read-written : (bytes : List ℕ) (s : Site) → Bytes bytes → readOf byte
 read-written bytes s small e =
     let w = read-form bytes small s e in ap (λ (t : Site). planBytes t) (w .3) ∙ plan-scheduled (w .0) ∙ sym (w .1 .are)
 
--- Site to bytes to site.
-pub written-read : (s : Site) → passesOf s ≡ true → 1 ≤ s .links → Bytes (planBytes s) × (readOf (planBytes s) ≡ accepted s)
-written-read s e some = let w = passes-parts s .0 e in (plan-small s (w .0), read-plan s (w .0) some ∙ rw (← w .2) at (w .1))
+-- Site to bytes to site, for every site that check 14 lets pass.
+pub written-read : (s : Site) → passesOf s ≡ true → Bytes (planBytes s) × (readOf (planBytes s) ≡ accepted s)
+written-read s e = let w = passes-parts s .0 e in (plan-small s (w .0), read-plan s (w .0) ∙ rw (← w .2) at (w .1))
 
 -- The operation writes these bytes, at most 763, and leaves the rest of the slice.
-pub plan-written : (s : Site) (out : List ℕ) → passesOf s ≡ true → 1 ≤ s .links → length (planBytes s) ≤ length out
+pub plan-written : (s : Site) (out : List ℕ) → passesOf s ≡ true → length (planBytes s) ≤ length out
     → writtenIf s (planBytes s) out ≡ (accepted (length (planBytes s)), planBytes s ++ drop (length (planBytes s)) out)
-unfolding handedFault writtenUnless written
-plan-written s out e some room = simp (e, ne-eqb (s .links) 0 (omega arith), le-ltb _ _ room)
+unfolding handed written
+plan-written s out e room = simp (e, le-ltb _ _ room)
 
 pub plan-short : (s : Site) → passesOf s ≡ true → length (planBytes s) ≤ 763
 plan-short s e =
@@ -129,22 +130,36 @@ plan-short s e =
 pub read-once : (bytes others : List ℕ) (s : Site) → Bytes bytes → Bytes others → readOf bytes ≡ accepted s → readOf others ≡ accepted s → bytes ≡ others
 read-once bytes others s small small′ e f = sym (read-written bytes s small e) ∙ read-written others s small′ f
 
--- Check 14 lets a site pass just when it is empty or some plan bytes read to it.
-pub passes-when : (s : Site) → (passesOf s ≡ true) ↔ ((s ≡ emptySite) ⊎ ((bytes : List ℕ) × Bytes bytes × (readOf bytes ≡ accepted s)))
+-- Check 14 lets a site pass just when some plan bytes read to it.
+pub passes-when : (s : Site) → (passesOf s ≡ true) ↔ ((bytes : List ℕ) × Bytes bytes × (readOf bytes ≡ accepted s))
 passes-when s = (
-  λ e. let w = passes-parts s .0 e in
-      ⊎-elim (λ some. let v = written-read s e some in inr (planBytes s, v .0, v .1))
-      (λ none. inl (linkless-empty s (w .0) (w .2) (omega arith))) (lt-or-le 0 (s .links)),
-  ⊎-elim (λ e. rw e empty-passes)
-      (λ v. let w = read-form (v .0) (v .1) s (v .2) in ap (λ (t : Site). passesOf t) (w .3) ∙ judged-passes (w .0) (w .1 .formed) (w .2)),
+  λ e. let w = written-read s e in (planBytes s, w .0, w .1),
+  λ v. let w = read-form (v .0) (v .1) s (v .2) in ap (λ (t : Site). passesOf t) (w .3) ∙ judged-passes (w .0) (w .1 .formed) (w .2),
 )
+
+-- A writer gives 14 just where the check does not let pass what is handed in.
+foreign : (p : Bool) (bytes out : List ℕ) (P : Type 0) → ((p ≡ true) ↔ P) → (handed p bytes out ≡ (refused 14 0, out)) ↔ (P → ⊥)
+foreign p bytes out P when = (
+  λ e x. ⊎-elim (λ w. false≢true (sym (w .0) ∙ when .1 x)) (λ w. absurd (omega (arith, w .1))) (written-refused p bytes out out 14 0 e),
+  λ n. go p refl n,
+)
+  where
+    go : (a : Bool) → p ≡ a → (P → ⊥) → handed a bytes out ≡ (refused 14 0, out)
+    unfolding handed
+    go true e n = absurd (n (when .0 e))
+    go false e n = refl
+
+-- So the writers of a site give it just to a site that no plan bytes read to.
+pub site-foreign : (s : Site) (bytes out : List ℕ)
+    → (writtenIf s bytes out ≡ (refused 14 0, out)) ↔ ((plan : List ℕ) × Bytes plan × (readOf plan ≡ accepted s) → ⊥)
+site-foreign s bytes out = foreign (passesOf s) bytes out _ (passes-when s)
 
 -- 02, U2. A reading as it was before, by the wanted gaps, in the words of `accepted-when`.
 pub formerly-accepted-when : (bytes : List ℕ) → Bytes bytes → (t : Site)
     → (formerRead bytes ≡ accepted t) ↔ ((s : Site) × InForm bytes s × Served s × FormerlyCarried s × FormerlyPunctual s × (t ≡ scheduled s))
 formerly-accepted-when bytes small t = (
   λ e. let w = former-form bytes small t e in let j = former-judged (w .0) (w .1 .formed) t .0 (w .2) in (w .0, w .1, j .0, j .1, j .2, j .3),
-  λ w. rw (w .1 .are) (former-plan (w .0) (w .1 .formed) (w .1 .some) ∙ former-judged (w .0) (w .1 .formed) t .1 (w .2, w .3, w .4, w .5)),
+  λ w. rw (w .1 .are) (former-plan (w .0) (w .1 .formed) ∙ former-judged (w .0) (w .1 .formed) t .1 (w .2, w .3, w .4, w .5)),
 )
 
 -- All plans accepted before remain so, and read to the same site.
@@ -154,7 +169,7 @@ accepted-still bytes small t e =
     let g = w .1 .formed in
     accepted-when bytes small t .1 (w .0, w .1, w .2, still-carried (w .0) g (w .2) (w .3), still-punctual (w .0) g (w .2) (w .4), w .5)
 
--- Up to 11 nothing has changed: a plan is refused with such a number just when it was, at the same place.
+-- Up to 11 U2 changed nothing: a plan is refused with such a number just when it would be by wanted gaps, at the same place.
 pub refused-alike : (bytes : List ℕ) (number place : ℕ) → number ≤ 11 → (readOf bytes ≡ refused number place) ↔ (formerRead bytes ≡ refused number place)
 unfolding readOf judgeForm formerRead formerForm
 refused-alike bytes number place l = go (decode bytes)
@@ -163,9 +178,9 @@ refused-alike bytes number place l = go (decode bytes)
     go (accepted s) = judged-alike s number place l
     go (refused m p) = (λ e. e, λ e. e)
 
--- 02, U1. Schedule bytes are read to a schedule just when they are the LINKs of at least one link, all within their limits, and END.
+-- 02, U1. Schedule bytes are read to a schedule just when they are the LINKs of its links, all within their limits, and END.
 pub schedule-accepted-when : (bytes : List ℕ) → Bytes bytes → (s : Schedule) → (scheduleRead bytes ≡ accepted s) ↔ ScheduleInForm bytes s
-schedule-accepted-when bytes small s = (schedule-form bytes small s, λ w. rw (w .are) (schedule-read s (w .listed) (w .some)))
+schedule-accepted-when bytes small s = (schedule-form bytes small s, λ w. rw (w .are) (schedule-read s (w .listed)))
 
 -- Refused: all commands before the place passed their checks, and of the checks of the command there, or of the end, this is the first in 02's order that fails.
 pub schedule-refused : (bytes : List ℕ) → Bytes bytes → (number place : ℕ) → (scheduleRead bytes ≡ refused number place) ↔ ScheduleFails bytes number place
@@ -175,80 +190,101 @@ schedule-refused bytes small number place = schedule-why bytes small number plac
 pub schedule-read-written : (bytes : List ℕ) (s : Schedule) → Bytes bytes → scheduleRead bytes ≡ accepted s → scheduleBytes s ≡ bytes
 schedule-read-written bytes s small e = sym (schedule-form bytes small s e .are)
 
-pub schedule-written-read : (s : Schedule) → schedulePasses s ≡ true → 1 ≤ s .links → Bytes (scheduleBytes s) × (scheduleRead (scheduleBytes s) ≡ accepted s)
-schedule-written-read s e some = let g = passes-listed s .0 e in (schedule-small s (g .few), schedule-read s g some)
+pub schedule-written-read : (s : Schedule) → schedulePasses s ≡ true → Bytes (scheduleBytes s) × (scheduleRead (scheduleBytes s) ≡ accepted s)
+schedule-written-read s e = let g = passes-listed s .0 e in (schedule-small s (g .few), schedule-read s g)
 
-pub site-schedule-read : (s : Site) → passesOf s ≡ true → 1 ≤ s .links
+pub site-schedule-read : (s : Site) → passesOf s ≡ true
     → (schedulePasses (scheduleOf s) ≡ true) × (scheduleRead (scheduleBytes (scheduleOf s)) ≡ accepted (scheduleOf s))
 unfolding scheduleOf
-site-schedule-read s e some = let g = site-listed s e in (passes-listed (scheduleOf s) .1 g, schedule-read (scheduleOf s) g some)
+site-schedule-read s e = let g = site-listed s e in (passes-listed (scheduleOf s) .1 g, schedule-read (scheduleOf s) g)
 
 -- No two byte strings read to one schedule.
 pub schedule-read-once : (bytes others : List ℕ) (s : Schedule) → Bytes bytes → Bytes others → scheduleRead bytes ≡ accepted s → scheduleRead others ≡ accepted s
     → bytes ≡ others
 schedule-read-once bytes others s small small′ e f = sym (schedule-read-written bytes s small e) ∙ schedule-read-written others s small′ f
 
--- 14 of a schedule lets pass just the one without links and those that some file reads to.
-pub schedule-passes-when : (s : Schedule)
-    → (schedulePasses s ≡ true) ↔ ((s ≡ withoutLinks) ⊎ ((bytes : List ℕ) × Bytes bytes × (scheduleRead bytes ≡ accepted s)))
+-- 14 lets a schedule pass just when some file reads to it, and its writer gives 14 just to one that no file reads to.
+pub schedule-passes-when : (s : Schedule) → (schedulePasses s ≡ true) ↔ ((bytes : List ℕ) × Bytes bytes × (scheduleRead bytes ≡ accepted s))
 schedule-passes-when s = (
-  λ e. ⊎-elim (λ some. let v = schedule-written-read s e some in inr (scheduleBytes s, v .0, v .1))
-      (λ none. inl (listed-without s (passes-listed s .0 e) (omega arith))) (lt-or-le 0 (s .links)),
-  ⊎-elim (λ e. rw e (passes-listed withoutLinks .1 without-listed))
-      (λ v. passes-listed s .1 (schedule-form (v .0) (v .1) s (v .2) .listed)),
+  λ e. let w = schedule-written-read s e in (scheduleBytes s, w .0, w .1),
+  λ v. passes-listed s .1 (schedule-form (v .0) (v .1) s (v .2) .listed),
 )
 
--- So a writer gives 14 just to a schedule that no file reads to, save the one without links, which gets 9.
-pub schedule-foreign : (s : Schedule)
-    → (scheduleFault s ≡ 14) ↔ ((s ≡ withoutLinks → ⊥) × ((bytes : List ℕ) → Bytes bytes → scheduleRead bytes ≡ accepted s → ⊥))
-unfolding handedFault
-schedule-foreign s = go (schedulePasses s) refl (eqb (s .links) 0)
-  where
-    go : (t : Bool) → schedulePasses s ≡ t → (b : Bool)
-        → (_≡_ {A = ℕ} (cond t (cond b 9 0) 14) 14) ↔ ((s ≡ withoutLinks → ⊥) × ((bytes : List ℕ) → Bytes bytes → scheduleRead bytes ≡ accepted s → ⊥))
-    go true e true = (λ q. absurd (omega arith), λ w. absurd (⊎-elim (w .0) (λ v. w .1 (v .0) (v .1) (v .2)) (schedule-passes-when s .0 e)))
-    go true e false = (λ q. absurd (omega arith), λ w. absurd (⊎-elim (w .0) (λ v. w .1 (v .0) (v .1) (v .2)) (schedule-passes-when s .0 e)))
-    go false e b = (
-      λ q. (
-        λ z. false≢true (sym e ∙ schedule-passes-when s .1 (inl z)),
-        λ bytes small r. false≢true (sym e ∙ schedule-passes-when s .1 (inr (bytes, small, r))),
-      ),
-      λ w. refl,
-    )
-
-pub schedule-bare : (s : Schedule) → (scheduleFault s ≡ 9) ↔ (s ≡ withoutLinks)
-unfolding handedFault
-schedule-bare s = go (schedulePasses s) refl (eqb (s .links) 0) refl
-  where
-    go : (t : Bool) → schedulePasses s ≡ t → (b : Bool) → eqb (s .links) 0 ≡ b → (_≡_ {A = ℕ} (cond t (cond b 9 0) 14) 9) ↔ (s ≡ withoutLinks)
-    go true e true z = (λ q. listed-without s (passes-listed s .0 e) (eqb-true _ _ z), λ w. refl)
-    go true e false z = (λ q. absurd (omega arith), λ w. absurd (eqb-false _ _ z (ap (λ (t : Schedule). t .links) w)))
-    go false e b z = (λ q. absurd (omega arith), λ w. absurd (false≢true (sym e ∙ schedule-passes-when s .1 (inl w))))
+pub schedule-foreign : (s : Schedule) (out : List ℕ)
+    → (scheduleWritten s out ≡ (refused 14 0, out)) ↔ ((bytes : List ℕ) × Bytes bytes × (scheduleRead bytes ≡ accepted s) → ⊥)
+schedule-foreign s out = foreign (schedulePasses s) (scheduleBytes s) out _ (schedule-passes-when s)
 
 -- A file that the writer made, from a schedule or from a site, reads back to the schedule that made it; what stood behind it in the slice stands there still.
 pub schedule-made : (s : Schedule) (out new : List ℕ) (size : ℕ) → scheduleWritten s out ≡ (accepted size, new)
     → (scheduleRead (take size new) ≡ accepted s) × (drop size new ≡ drop size out)
 schedule-made s out new size e =
-    let w = written-accepted (scheduleFault s) (scheduleBytes s) out new size e in
-    let p = fault-passed (schedulePasses s) (s .links) (w .0) in
-    (ap scheduleRead (w .2) ∙ schedule-written-read s (p .0) (p .1) .1, w .3)
+    let w = written-accepted (schedulePasses s) (scheduleBytes s) out new size e in
+    (ap scheduleRead (w .2) ∙ schedule-written-read s (w .0) .1, w .3)
 
 pub site-schedule-made : (s : Site) (out new : List ℕ) (size : ℕ) → writtenIf s (scheduleBytes (scheduleOf s)) out ≡ (accepted size, new)
     → (scheduleRead (take size new) ≡ accepted (scheduleOf s)) × (drop size new ≡ drop size out)
 site-schedule-made s out new size e =
-    let w = written-accepted (siteFault s) (scheduleBytes (scheduleOf s)) out new size e in
-    let p = fault-passed (passesOf s) (s .links) (w .0) in
-    (ap scheduleRead (w .2) ∙ site-schedule-read s (p .0) (p .1) .1, w .3)
+    let w = written-accepted (passesOf s) (scheduleBytes (scheduleOf s)) out new size e in
+    (ap scheduleRead (w .2) ∙ site-schedule-read s (w .0) .1, w .3)
 
 -- A file that is accepted is written again to equal bytes, wherever there is room for them.
 pub schedule-again : (bytes : List ℕ) (s : Schedule) → Bytes bytes → scheduleRead bytes ≡ accepted s → (out : List ℕ) → length bytes ≤ length out
     → scheduleWritten s out ≡ (accepted (length bytes), bytes ++ drop (length bytes) out)
-unfolding handedFault writtenUnless written
+unfolding handed written
 schedule-again bytes s small e out room =
-    let w = schedule-form bytes small s e in
-    simp (passes-listed s .1 (w .listed), ne-eqb (s .links) 0 (omega (arith, w .some)), ← w .are, le-ltb _ _ room)
+    let w = schedule-form bytes small s e in simp (passes-listed s .1 (w .listed), ← w .are, le-ltb _ _ room)
 
 -- The site's writer and the schedule's write the same bytes.
-pub schedule-alike : (s : Site) (out : List ℕ) → passesOf s ≡ true → 1 ≤ s .links → scheduleWritten (scheduleOf s) out ≡ writtenIf s (scheduleBytes (scheduleOf s)) out
+pub schedule-alike : (s : Site) (out : List ℕ) → passesOf s ≡ true → scheduleWritten (scheduleOf s) out ≡ writtenIf s (scheduleBytes (scheduleOf s)) out
 unfolding scheduleOf
-schedule-alike s out e some = rw (e, site-schedule-read s e some .0)
+schedule-alike s out e = rw (e, site-schedule-read s e .0)
+
+-- 02, U3. END alone is the plan of the empty site, and its schedule is END alone too; no other bytes read to these, and nothing else without links passes check 14.
+pub end-alone : (bytes : List ℕ) → Bytes bytes → (readOf bytes ≡ accepted emptySite) ↔ (bytes ≡ 255 ∷ [])
+unfolding planBytes commandBytes joined flowIfLive live
+end-alone bytes small = (
+  λ e. sym (read-written bytes emptySite small e),
+  λ e. rw e (written-read emptySite empty-passes .1),
+)
+
+pub end-alone-schedule : (bytes : List ℕ) → Bytes bytes → (scheduleRead bytes ≡ accepted withoutLinks) ↔ (bytes ≡ 255 ∷ [])
+unfolding scheduleBytes joined
+end-alone-schedule bytes small = (
+  λ e. sym (schedule-read-written bytes withoutLinks small e),
+  λ e. rw e (schedule-read withoutLinks without-listed),
+)
+
+pub end-alone-written : (planBytes emptySite ≡ 255 ∷ []) × (scheduleOf emptySite ≡ withoutLinks) × (scheduleBytes withoutLinks ≡ 255 ∷ [])
+unfolding planBytes commandBytes joined flowIfLive live scheduleOf scheduleBytes
+end-alone-written = (refl, refl, refl)
+
+pub site-unlinked : (s : Site) → passesOf s ≡ true → s .links ≡ 0 → s ≡ emptySite
+site-unlinked s e z = let w = passes-parts s .0 e in linkless-empty s (w .0) (w .2) z
+
+pub schedule-unlinked : (s : Schedule) → schedulePasses s ≡ true → s .links ≡ 0 → s ≡ withoutLinks
+schedule-unlinked s e z = listed-without s (passes-listed s .0 e) z
+
+-- A byte after an END that comes first is refused by 10, in plans and in schedules.
+pub end-first : (byte : ℕ) (rest : List ℕ) → (readOf (255 ∷ byte ∷ rest) ≡ refused 10 1) × (scheduleRead (255 ∷ byte ∷ rest) ≡ refused 10 1)
+unfolding readOf judgeForm decode scheduleRead readFrom ended
+end-first byte rest = (refl, refl)
+
+-- And 9 no longer occurs: not for plans, not for schedules, not for writers.
+pub plan-without-9 : (bytes : List ℕ) → Bytes bytes → (place : ℕ) → readOf bytes ≡ refused 9 place → ⊥
+plan-without-9 bytes small place e = go (refused-form bytes small 9 place .0 (e, omega arith))
+  where
+    go : FormFails bytes 9 place → ⊥
+    go (no-end s b p n) = omega arith
+    go (command s b l t f) = omega (arith, first-numbers bytes place s 9 f)
+    go (more s at b t p l n) = omega arith
+
+pub schedule-without-9 : (bytes : List ℕ) → Bytes bytes → (place : ℕ) → scheduleRead bytes ≡ refused 9 place → ⊥
+schedule-without-9 bytes small place e = go (schedule-refused bytes small 9 place .0 e)
+  where
+    go : ScheduleFails bytes 9 place → ⊥
+    go (no-end s b p n) = omega arith
+    go (command s b l t f) = check-numbers bytes place s 9 f .1 refl
+    go (more s at b t p l n) = omega arith
+
+pub writer-without-9 : (p : Bool) (bytes out new : List ℕ) (place : ℕ) → handed p bytes out ≡ (refused 9 place, new) → ⊥
+writer-without-9 p bytes out new place e = ⊎-elim (λ w. omega (arith, w .1)) (λ w. omega (arith, w .1)) (written-refused p bytes out new 9 place e)

@@ -49,7 +49,7 @@ unfoldable pub formerForm : Outcome Site → Outcome Site
 formerForm (accepted s) = formerJudgeOf s
 formerForm (refused number place) = refused number place
 
--- What a plan's bytes read to. Their form was judged as it is now.
+-- What a plan's bytes read to. The form is the one of now, in which END may stand alone (02, U3).
 unfoldable pub formerRead : List ℕ → Outcome Site
 formerRead bytes = formerForm (decode bytes)
 

@@ -71,13 +71,9 @@ flowAdded d f = record { site = withFlow (d .site) f; next = f .number + 1 }
 unfoldable pub after : List ℕ → ℕ → Draft → Draft
 after bytes at d = cond (eqb (getD bytes at 0) 1) (nodeAdded d (nodeAt bytes at)) (flowAdded d (flowAt bytes at))
 
--- 01, the checks of END, 9 and 10, behind these nodes and flows.
-abbrev pub endOf : ℕ → ℕ → Site → Outcome Site
-endOf size at s = ended size at (s .links) s
-
 -- Plans as a kind of file.
 abbrev pub plans : Kind Draft Site
-plans = record { size = sizeOf; later = laterFault; after = after; end = λ size at d. endOf size at (d .site) }
+plans = record { size = sizeOf; later = laterFault; after = after; end = λ size at d. ended size at (d .site) }
 
 -- 01, the order of a command's checks: 3, 2, and then those of a NODE or of a FLOW.
 abbrev pub fault : List ℕ → ℕ → Draft → ℕ

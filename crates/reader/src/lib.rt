@@ -7,7 +7,8 @@ ghost use mathlib.Core.Path.{_≡_};
 ghost use Prim.Native.Nat.{_+_, _<_};
 ghost use lib.ListN.{length};
 ghost use Rattle.schedule.specs.Judge.{ruling, withSite};
-ghost use Rattle.reader.specs.Read.{Draft, nodeAt, flowAt, nodeFault, fault, endOf, judgeForm, readOf};
+ghost use Rattle.format.specs.Reading.{ended};
+ghost use Rattle.reader.specs.Read.{Draft, nodeAt, flowAt, nodeFault, fault, judgeForm, readOf};
 ghost use Rattle.reader.specs.Inner.{Known};
 
 // 4 and 7 for a NODE, then 5, 6 and 8.
@@ -68,14 +69,11 @@ fn fault_at<'a>(bytes: &'a [u8], at: usize, links: u8, next: u8, parents: &'a [u
     limits::flow_limits(links, next, flow_at(bytes, at))
 }
 
-// END at index `at`: 9 and 10, then the judgement of the whole.
+// END at index `at`: 10, then the judgement of the whole.
 fn end(size: usize, at: usize, site: Site) -> Judged
     requires { ⌜ at < size ⌝ }
-    ensures { λ r. ⌜ (ruling (r .verdict), r .site) ≡ withSite (judgeForm (endOf size at site)) ⌝ }
+    ensures { λ r. ⌜ (ruling (r .verdict), r .site) ≡ withSite (judgeForm (ended size at site)) ⌝ }
 {
-    if site.links == 0 {
-        return schedule::refusal(9, at);
-    }
     if at + 1 < size {
         return schedule::refusal(10, at + 1);
     }

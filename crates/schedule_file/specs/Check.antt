@@ -1,5 +1,5 @@
--- 02, U1, check 14 of a schedule that is handed in, as tests on its entries: whether it is the one without links or what some file reads to. That these tests say
--- just this is the law `schedule-passes-when` of crate `plan`.
+-- 02, U1, check 14 of a schedule that is handed in, as tests on its entries: whether some file reads to it. That these tests say just this is the law
+-- `schedule-passes-when` of crate `plan`.
 use Prim.Native.Nat.{ℕ, _-_}
 use mathlib.Core.Bool.{Bool, not, _&&_}
 use mathlib.Core.List.{List}

@@ -47,17 +47,13 @@ linkAdded s l = record {
   periods = set (s .periods) (s .links) (l .period);
 }
 
--- 02: 9 and 10 apply as for plans, with LINK for NODE.
-abbrev pub endOf : ℕ → ℕ → Schedule → Outcome Schedule
-endOf size at s = ended size at (s .links) s
-
--- Schedules as a kind of file.
+-- Schedules as a kind of file. 02: 10 applies as for plans.
 abbrev pub schedules : Kind Schedule Schedule
 schedules = record {
   size = scheduleSize;
   later = λ bytes at s. linkFault (s .links) (linkAt bytes at);
   after = λ bytes at s. linkAdded s (linkAt bytes at);
-  end = endOf;
+  end = ended;
 }
 
 -- 02, the order of a command's checks: 3, 2, 21, 22.

@@ -5,7 +5,8 @@ ghost use Prim.Native.Nat.{_+_, _-_, _≤_, _<_};
 ghost use lib.ListN.{length};
 ghost use Rattle.pinwheel.specs.Outcome.{refused};
 ghost use Rattle.schedule.specs.Judge.{ruling};
-ghost use Rattle.schedule_file.specs.Read.{withoutLinks, withLinks, linkAt, outOfOrder, badSlots, linkFault, endOf, fault, scheduleRead};
+ghost use Rattle.format.specs.Reading.{ended};
+ghost use Rattle.schedule_file.specs.Read.{withoutLinks, withLinks, linkAt, outOfOrder, badSlots, linkFault, fault, scheduleRead};
 ghost use Rattle.schedule_file.specs.Check.{inUse, badAt, usedAt, schedulePasses};
 ghost use Rattle.pinwheel.specs.Search.{any};
 
@@ -114,14 +115,11 @@ fn fault_at(bytes: &[u8], at: usize, links: u8) -> u8
     link_fault(links, link_at(bytes, at))
 }
 
-// END at index `at`: 9 and 10.
+// END at index `at`: 10.
 fn end(size: usize, at: usize, schedule: Schedule) -> Reading
     requires { ⌜ at < size ⌝ }
-    ensures { λ r. ⌜ (ruling (r .verdict), r .schedule) ≡ withLinks (endOf size at schedule) ⌝ }
+    ensures { λ r. ⌜ (ruling (r .verdict), r .schedule) ≡ withLinks (ended size at schedule) ⌝ }
 {
-    if schedule.links == 0 {
-        return refusal(9, at);
-    }
     if at + 1 < size {
         return refusal(10, at + 1);
     }

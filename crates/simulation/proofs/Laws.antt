@@ -13,11 +13,11 @@ use borrow.Author.Tests.{lt-ltb, le-ltb, eq-eqb, eqb-true, ltb-true, ltb-false, 
 use native.Mathlib.Decide.{ℕ-discrete}
 use native.Mathlib.Omega.{arith}
 use Rattle.pinwheel.specs.Outcome.{Outcome, Ruling, accepted, refused, checked, Checks, none, check, Ruled, nothing}
-use Rattle.pinwheel.specs.Search.{first, total, joined}
+use Rattle.pinwheel.specs.Search.{first, last, total, joined}
 use Rattle.pinwheel.proofs.Laws.Outcomes.{past, checked-pass, checked-past, settled-accepted, settled-refused, ruled-check, ruled-test, ruled-end}
 use Rattle.pinwheel.proofs.Laws.Search.{lt-or-le, last-passes, last-above, last-is, first-none, first-found}
 use Rattle.site.specs.declared.Site.{Site}
-use Rattle.site.specs.Sites.{used, ofLink, live}
+use Rattle.site.specs.Sites.{emptySite, used, ofLink, live}
 use Rattle.site.specs.Reservations.{gapsJudged, routeOf, widthAt}
 use Rattle.schedule.specs.Words.{SendsAt}
 use Rattle.schedule.proofs.Laws.Slots.{sends-in}
@@ -25,6 +25,7 @@ use Rattle.limits.specs.Check.{passesOf, callFault}
 use Rattle.limits.specs.Words.{Sound}
 use Rattle.limits.proofs.Laws.{passes-sound, call-when, site-first, call-first, siblings-apart}
 use Rattle.limits.proofs.Laws.Check.{passes-few}
+use Rattle.limits.proofs.Laws.Empty.{empty-passes}
 use Rattle.pinwheel.proofs.Laws.Choices.{not-when}
 use Rattle.counters.specs.Blocks.{cellsOf, zeros}
 use Rattle.counters.proofs.Laws.{length-block, length-joined, block-joined, block-zeros}
@@ -113,6 +114,11 @@ sender-first s p t o =
     site-first (SendingChild s p t) o _ _ s
     (λ e. ruled-test (SendingChild s p t) o (ltb (s .links) p) 6 0 _ none _ (ltb-true _ _, lt-ltb _ _)
     (λ _. ruled-end (SendingChild s p t) o (sendingChild s p t) (child-when s e p t _ .0 refl) (λ c w. sym (child-when s e p t c .1 w))))
+
+-- 02, U3. On the site without links the root is the only parent, and nobody sends to it.
+pub sender-unlinked : (t : ℕ) → (senderOf emptySite 0 t ≡ accepted 0) × ((p : ℕ) → 1 ≤ p → senderOf emptySite p t ≡ refused 6 0)
+unfolding senderOf lookupOf sendingChild last used
+sender-unlinked t = (rw empty-passes, λ p l. rw (empty-passes, lt-ltb 0 p l))
 
 -- A route has a hop for each of its links, in the same order.
 pub length-along : (hop : ℕ → Hop) (ms : List ℕ) → length (hopsAlong hop ms) ≡ length ms

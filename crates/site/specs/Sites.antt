@@ -7,7 +7,7 @@ use lib.ListN.{getD, set, replicate}
 use Rattle.site.specs.declared.Site.{Site}
 use Rattle.site.specs.declared.Flow.{Flow}
 
--- 01: the empty site, which a refused reading comes with. No links, no flows, every entry 0.
+-- 01: the empty site, which a refused reading comes with and, by 02, U3, END alone is read to. No links, no flows, every entry 0.
 abbrev pub emptySite : Site
 emptySite = record {
   links = 0;

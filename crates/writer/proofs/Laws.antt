@@ -1,14 +1,14 @@
--- What is proved of the writers by themselves: a LINK tells its node, offset and period, the checks of a site change nothing for one that passes them, and what an
+-- What is proved of the writers by themselves: a LINK tells its node, offset and period, check 14 changes nothing for a site that passes it, and what an
 -- accepted writing leaves. The modules named here hold the lemmas; crate `plan` has what the bytes mean.
 pub mod Write
-use Prim.Native.Nat.{ℕ, _+_, _≤_, _<_}
+use Prim.Native.Nat.{ℕ, _+_, _<_}
 use mathlib.Core.Path.{_≡_, refl, sym, _∙_, ap}
 use mathlib.Core.Bool.{Bool, true, false, cond}
 use mathlib.Core.List.{List, _++_}
-use lib.Dec.{eqb, ltb}
+use mathlib.Core.Logic.{_⊎_, inl, inr}
+use lib.Dec.{ltb}
 use lib.ListN.{length, getD, take, drop}
 use lib.Seq.{take-at, drop-at}
-use borrow.Author.Tests.{ne-eqb, eqb-true}
 use native.Mathlib.Omega.{arith}
 use Rattle.pinwheel.specs.Outcome.{Outcome, accepted, refused}
 use Rattle.pinwheel.proofs.Laws.Outcomes.{refused-not}
@@ -18,8 +18,8 @@ use Rattle.limits.proofs.Laws.Check.{passes-few}
 use Rattle.schedule_file.specs.declared.Schedule.{Schedule}
 use Rattle.format.specs.Bytes.{numberAt, bytesOf}
 use Rattle.format.proofs.Laws.{number-bytes, number-one, byte-at, left-at}
-use Rattle.writer.specs.Write.{linkBytes, written, encoded, handedFault, writtenUnless, writtenIf}
-use Rattle.writer.proofs.Laws.Write.{written-well}
+use Rattle.writer.specs.Write.{linkBytes, written, encoded, handed, writtenIf}
+use Rattle.writer.proofs.Laws.Write.{handed-well}
 
 -- The bytes of a LINK, wherever they stand, read back as its node, offset and period, for any values of 16 bits.
 pub link-read : (s : Schedule) (i : ℕ) → getD (s .offsets) i 0 < 65536 → getD (s .periods) i 0 < 65536
@@ -32,29 +32,46 @@ link-read s i o p bytes rest at e = (
   number-bytes 2 (getD (s .periods) i 0) bytes rest (at + 4) (omega arith) (left-at bytes at _ 4 e),
 )
 
--- A site that passes check 14 and has links is written alike with the two checks and without them.
-pub plain-writing : (s : Site) (bytes out : List ℕ) → passesOf s ≡ true → 1 ≤ s .links → encoded (s .links) bytes out ≡ writtenIf s bytes out
-unfolding handedFault
-plain-writing s bytes out e some =
-    written-well (s .links) bytes out (passesOf s) (passes-few s) 0 (rw (e, ne-eqb (s .links) 0 (omega arith))) _ refl refl
+-- A site that passes check 14 is written alike with the check and without it.
+pub plain-writing : (s : Site) (bytes out : List ℕ) → passesOf s ≡ true → encoded (s .links) bytes out ≡ writtenIf s bytes out
+plain-writing s bytes out e = handed-well (passesOf s) true (sym e) bytes out (s .links) (passes-few s) refl _ refl
 
--- A writing that is accepted stored the bytes at the front of the slice and kept the rest, and no check failed before it.
-pub written-accepted : (fault : ℕ) (bytes out new : List ℕ) (size : ℕ) → writtenUnless fault bytes out ≡ (accepted size, new)
-    → (fault ≡ 0) × (size ≡ length bytes) × (take size new ≡ bytes) × (drop size new ≡ drop size out)
-unfolding writtenUnless written
-written-accepted fault bytes out new size e = go (eqb fault 0) refl (ltb (length out) (length bytes)) e
+-- What a writing comes to where 14 lets pass: `accepted`, or 1.
+abbrev room : List ℕ → List ℕ → Bool → Outcome ℕ × List ℕ
+room bytes out short = cond short (refused 1 0, out) (accepted (length bytes), bytes ++ drop (length bytes) out)
+
+-- A writing that is accepted stored the bytes at the front of the slice and kept the rest, and 14 let pass what was handed in.
+pub written-accepted : (p : Bool) (bytes out new : List ℕ) (size : ℕ) → handed p bytes out ≡ (accepted size, new)
+    → (p ≡ true) × (size ≡ length bytes) × (take size new ≡ bytes) × (drop size new ≡ drop size out)
+unfolding handed written
+written-accepted p bytes out new size e = go p refl (ltb (length out) (length bytes)) e
   where
-    go : (a : Bool) → eqb fault 0 ≡ a → (b : Bool)
-        → _≡_ {A = Outcome ℕ × List ℕ} (cond a (cond b (refused 1 0, out) (accepted (length bytes), bytes ++ drop (length bytes) out)) (refused fault 0, out)) (accepted size, new)
-        → (fault ≡ 0) × (size ≡ length bytes) × (take size new ≡ bytes) × (drop size new ≡ drop size out)
-    go true p false e =
+    go : (a : Bool) → p ≡ a → (b : Bool) → cond a (room bytes out b) (refused 14 0, out) ≡ (accepted size, new)
+        → (p ≡ true) × (size ≡ length bytes) × (take size new ≡ bytes) × (drop size new ≡ drop size out)
+    go true q false e =
         let o : _≡_ {A = Outcome ℕ} (accepted (length bytes)) (accepted size) = ap (λ (r : Outcome ℕ × List ℕ). r .0) e in
         let long : length bytes ≡ size = cc in
         let is : bytes ++ drop (length bytes) out ≡ new = ap (λ (r : Outcome ℕ × List ℕ). r .1) e in (
-          eqb-true _ _ p,
+          q,
           sym long,
           sym (ap (λ (r : List ℕ). take size r) is) ∙ take-at bytes (drop (length bytes) out) size long,
           sym (ap (λ (r : List ℕ). drop size r) is) ∙ drop-at bytes (drop (length bytes) out) size long ∙ rw long,
         )
-    go true p true e = absurd (refused-not _ refl (ap (λ (r : Outcome ℕ × List ℕ). r .0) e))
-    go false p b e = absurd (refused-not _ refl (ap (λ (r : Outcome ℕ × List ℕ). r .0) e))
+    go true q true e = absurd (refused-not _ refl (ap (λ (r : Outcome ℕ × List ℕ). r .0) e))
+    go false q b e = absurd (refused-not _ refl (ap (λ (r : Outcome ℕ × List ℕ). r .0) e))
+
+-- The numbers that a writer refuses with: 14 just where the check does not let pass, and else 1.
+pub written-refused : (p : Bool) (bytes out new : List ℕ) (number place : ℕ) → handed p bytes out ≡ (refused number place, new)
+    → ((p ≡ false) × (number ≡ 14)) ⊎ ((p ≡ true) × (number ≡ 1))
+unfolding handed written
+written-refused p bytes out new number place e = go p refl (ltb (length out) (length bytes)) e
+  where
+    go : (a : Bool) → p ≡ a → (b : Bool) → cond a (room bytes out b) (refused 14 0, out) ≡ (refused number place, new)
+        → ((p ≡ false) × (number ≡ 14)) ⊎ ((p ≡ true) × (number ≡ 1))
+    go true q false e = absurd (refused-not _ (ap (λ (r : Outcome ℕ × List ℕ). r .0) e) refl)
+    go true q true e =
+        let o : _≡_ {A = Outcome ℕ} (refused 1 0) (refused number place) = ap (λ (r : Outcome ℕ × List ℕ). r .0) e in
+        let n : number ≡ 1 = cc in inr (q, n)
+    go false q b e =
+        let o : _≡_ {A = Outcome ℕ} (refused 14 0) (refused number place) = ap (λ (r : Outcome ℕ × List ℕ). r .0) e in
+        let n : number ≡ 14 = cc in inl (q, n)

@@ -2,7 +2,7 @@
 use Prim.Native.Nat.{ℕ, _+_}
 use mathlib.Core.Bool.{Bool, cond}
 use mathlib.Core.List.{List, [], _∷_, _++_}
-use lib.Dec.{eqb, ltb}
+use lib.Dec.{ltb}
 use lib.ListN.{length, getD, drop}
 use Rattle.pinwheel.specs.Outcome.{Outcome, accepted, refused}
 use Rattle.pinwheel.specs.Search.{joined}
@@ -64,29 +64,18 @@ scheduleBytes s = joined (linkBytes s) (s .links) 0 ++ (255 ∷ [])
 unfoldable pub written : List ℕ → List ℕ → Outcome ℕ × List ℕ
 written bytes out = cond (ltb (length out) (length bytes)) (refused 1 0, out) (accepted (length bytes), bytes ++ drop (length bytes) out)
 
--- The writing where 14 and 9 are not asked, of so many links: more than there can be are refused, since there are no entries for them. On every site
--- that passes the two checks it is the writing with them: the law `plain-writing`.
+-- The writing where 14 is not asked, of so many links: more than there can be are refused, since there are no entries for them. On every site
+-- that passes the check it is the writing with it: the law `plain-writing`.
 unfoldable pub encoded : ℕ → List ℕ → List ℕ → Outcome ℕ × List ℕ
 encoded links bytes out = cond (ltb 63 links) (refused 14 0, out) (written bytes out)
 
--- 01, the checks of what is handed to a writer, by whether 14 lets it pass and by its links: the first of 14 and 9 that it fails, 0 where it fails neither.
-unfoldable pub handedFault : Bool → ℕ → ℕ
-handedFault passes links = cond passes (cond (eqb links 0) 9 0) 14
+-- 01, the checks of what is handed to a writer: 14, by whether it passes, and then the writing itself.
+unfoldable pub handed : Bool → List ℕ → List ℕ → Outcome ℕ × List ℕ
+handed passes bytes out = cond passes (written bytes out) (refused 14 0, out)
 
--- Those of a site and, by 02, U1, those of a schedule: 14 for one that no file reads to, save the one without links, which gets 9.
-abbrev pub siteFault : Site → ℕ
-siteFault s = handedFault (passesOf s) (s .links)
-
-abbrev pub scheduleFault : Schedule → ℕ
-scheduleFault s = handedFault (schedulePasses s) (s .links)
-
--- The first check that failed, 0 where none did, and then the writing itself.
-unfoldable pub writtenUnless : ℕ → List ℕ → List ℕ → Outcome ℕ × List ℕ
-writtenUnless fault bytes out = cond (eqb fault 0) (written bytes out) (refused fault 0, out)
-
--- The bytes of a site, its plan or its schedule; and those of a schedule by itself.
+-- The bytes of a site, its plan or its schedule; and, by 02, U1, those of a schedule by itself.
 abbrev pub writtenIf : Site → List ℕ → List ℕ → Outcome ℕ × List ℕ
-writtenIf s bytes out = writtenUnless (siteFault s) bytes out
+writtenIf s bytes out = handed (passesOf s) bytes out
 
 abbrev pub scheduleWritten : Schedule → List ℕ → Outcome ℕ × List ℕ
-scheduleWritten s out = writtenUnless (scheduleFault s) (scheduleBytes s) out
+scheduleWritten s out = handed (schedulePasses s) (scheduleBytes s) out

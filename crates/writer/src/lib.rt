@@ -8,7 +8,7 @@ ghost use lib.Seq.{sets};
 ghost use Rattle.writer.specs.Write.{writing, nodeCommand, nodeBytes, flowCommand, flowIfLive, linkCommand, linkBytes, planBytes, scheduleBytes};
 ghost use Rattle.pinwheel.specs.Search.{joined};
 ghost use Rattle.schedule_file.specs.Read.{ofLists};
-ghost use Rattle.writer.specs.Write.{scheduleOf, written, encoded, handedFault, writtenIf, scheduleWritten};
+ghost use Rattle.writer.specs.Write.{scheduleOf, written, encoded, writtenIf, scheduleWritten};
 
 // The number of bytes written, or the number and the place of a refusal.
 pub enum Written {
@@ -154,7 +154,7 @@ fn put_links<'a>(links: u8, offsets: &'a [u16; 63], periods: &'a [u16; 63], out:
     at
 }
 
-// The plan bytes of a site whose checks 14 and 9 are not asked here.
+// The plan bytes of a site whose check 14 is not asked here.
 pub fn encode_plan(site: Site, out: &mut [u8]) -> Written
     ensures { λ r. ⌜ (writing r, now (out .exit)) ≡ encoded (site .links) (planBytes site) (now (out .entry)) ⌝ }
 {
@@ -164,7 +164,7 @@ pub fn encode_plan(site: Site, out: &mut [u8]) -> Written
     put_plan(site, out)
 }
 
-// The bytes of a schedule whose checks 14 and 9 are not asked here.
+// The bytes of a schedule whose check 14 is not asked here.
 pub fn encode_schedule(schedule: Schedule, out: &mut [u8]) -> Written
     ensures { λ r. ⌜ (writing r, now (out .exit)) ≡ encoded (schedule .links) (scheduleBytes schedule) (now (out .entry)) ⌝ }
 {
@@ -194,26 +194,12 @@ pub fn schedule_of(site: Site) -> Schedule
     }
 }
 
-// 14 and 9 for what is handed to a writer, 0 where it fails neither.
-fn handed_fault(passes: bool, links: u8) -> u8
-    ensures { λ r. ⌜ r ≡ handedFault passes links ⌝ }
-{
-    if !passes {
-        return 14;
-    }
-    if links == 0 {
-        return 9;
-    }
-    0
-}
-
 // The plan bytes of a site.
 pub fn write_plan(site: Site, out: &mut [u8]) -> Written
     ensures { λ r. ⌜ (writing r, now (out .exit)) ≡ writtenIf site (planBytes site) (now (out .entry)) ⌝ }
 {
-    let fault = handed_fault(limits::passes(site), site.links);
-    if fault != 0 {
-        return Written::Refused(fault, 0);
+    if !limits::passes(site) {
+        return Written::Refused(14, 0);
     }
     encode_plan(site, out)
 }
@@ -222,9 +208,8 @@ pub fn write_plan(site: Site, out: &mut [u8]) -> Written
 pub fn write_schedule(site: Site, out: &mut [u8]) -> Written
     ensures { λ r. ⌜ (writing r, now (out .exit)) ≡ writtenIf site (scheduleBytes (scheduleOf site)) (now (out .entry)) ⌝ }
 {
-    let fault = handed_fault(limits::passes(site), site.links);
-    if fault != 0 {
-        return Written::Refused(fault, 0);
+    if !limits::passes(site) {
+        return Written::Refused(14, 0);
     }
     encode_schedule(schedule_of(site), out)
 }
@@ -233,9 +218,8 @@ pub fn write_schedule(site: Site, out: &mut [u8]) -> Written
 pub fn write_schedule_of(schedule: Schedule, out: &mut [u8]) -> Written
     ensures { λ r. ⌜ (writing r, now (out .exit)) ≡ scheduleWritten schedule (now (out .entry)) ⌝ }
 {
-    let fault = handed_fault(schedule_file::passes(schedule), schedule.links);
-    if fault != 0 {
-        return Written::Refused(fault, 0);
+    if !schedule_file::passes(schedule) {
+        return Written::Refused(14, 0);
     }
     encode_schedule(schedule, out)
 }

@@ -1,7 +1,7 @@
 -- One law for each way that a host's call ends. The site is the one that the plan bytes read to.
 use Prim.Native.Nat.{ℕ, _≤_, _<_, _+_, _*_}
 use mathlib.Core.Path.{_≡_, refl, sym, _∙_, ap}
-use mathlib.Core.Logic.{inr}
+use mathlib.Core.Bool.{true}
 use mathlib.Core.List.{List}
 use lib.ListN.{length}
 use borrow.Author.Tests.{le-leb, eq-eqb, ne-eqb}
@@ -9,13 +9,12 @@ use native.Mathlib.Omega.{arith}
 use Rattle.pinwheel.specs.Outcome.{Outcome, Ruling, accepted, refused, checked, settled}
 use Rattle.site.specs.declared.Site.{Site}
 use Rattle.site.specs.declared.Flow.{Flow}
-use Rattle.site.specs.Sites.{emptySite, withFlow, withoutFlow, withSchedule}
+use Rattle.site.specs.Sites.{emptySite, withFlow, withoutFlow}
 use Rattle.schedule.specs.declared.Verdict.{Verdict}
 use Rattle.schedule.specs.declared.Verdict.the-variants.{Accepted, Refused}
-use Rattle.schedule.specs.Schedule.{scheduled}
 use Rattle.schedule.specs.Judge.{ruling, withSite}
 use Rattle.pinwheel.proofs.Laws.Outcomes.{else-accepted, else-refused}
-use Rattle.limits.specs.Check.{callFault}
+use Rattle.limits.specs.Check.{passesOf, callFault}
 use Rattle.limits.proofs.Laws.{passes-sound, call-when, flow-taken}
 use Rattle.counters.specs.Blocks.{withCells, zeros, cleared}
 use Rattle.format.specs.Words.{Bytes}
@@ -25,7 +24,6 @@ use Rattle.schedule_file.specs.Read.{withoutLinks, withLinks, scheduleRead}
 use Rattle.writer.specs.Write.{planBytes, encoded, writtenIf}
 use Rattle.writer.proofs.Laws.{plain-writing}
 use Rattle.plan.proofs.Laws.{passes-when}
-use Rattle.plan.proofs.Laws.Acceptance.{read-form}
 use Rattle.plan.proofs.Laws.Near.{read-near, schedule-near}
 use Rattle.admission.specs.Calls.{change, flowRuling, admitRuling, numberRuling, releaseRuling}
 use Rattle.admission.proofs.Laws.{admits-when, releases-when, admitted-passes}
@@ -36,13 +34,10 @@ use Rattle.simulation.specs.Slot.{slotOf, advanceOf, startOf}
 use Rattle.simulation.proofs.Laws.{slot-advances, sender-looks}
 use Rattle.simulation.proofs.Laws.Answers.{start-passes}
 use Rattle.embed.specs.Calls.{valued, byReading, onSite, ofLength, stored, rewritten, answered}
-use Rattle.embed.specs.Inner.{Standing}
 
--- Some bytes read to the site, so it passes check 14 and has links.
-pub read-standing : (bytes : List ℕ) → Bytes bytes → (s : Site) → readOf bytes ≡ accepted s → Standing s
-unfolding scheduled withSchedule
-read-standing bytes small s e =
-    let w = read-form bytes small s e in record { sound = passes-when s .1 (inr (bytes, small, e)); some = rw (w .3) (w .1 .some) }
+-- Some bytes read to the site, so check 14 lets it pass.
+pub read-standing : (bytes : List ℕ) → Bytes bytes → (s : Site) → readOf bytes ≡ accepted s → passesOf s ≡ true
+read-standing bytes small s e = passes-when s .1 (bytes, small, e)
 
 -- A call by what a reading came to.
 module _ {A B : Type 0} (o : Outcome B) (f : B → A) (other : ℕ → ℕ → A) where
@@ -99,20 +94,20 @@ module _ {A : Type 0} (list : List ℕ) (n : ℕ) (a b : A) where
   unfolding ofLength
   off-length e = rw (ne-eqb _ _ e)
 
--- What a standing site answers, whose check 14 need not be asked again.
-module _ (s : Site) (w : Standing s) where
+-- What a site answers whose check 14 need not be asked again.
+module _ (s : Site) (sound : passesOf s ≡ true) where
   pub stands-written : (bytes out : List ℕ) → encoded (s .links) bytes out ≡ writtenIf s bytes out
-  stands-written bytes out = plain-writing s bytes out (w .sound) (w .some)
+  stands-written bytes out = plain-writing s bytes out sound
 
   pub stands-found : (p t : ℕ) → lookupOf s p t ≡ senderOf s p t
-  stands-found p t = sym (sender-looks s p t (w .sound))
+  stands-found p t = sym (sender-looks s p t sound)
 
   pub stands-advanced : (cs xs : List ℕ) (t : ℕ) → advanceOf own s cs xs t ≡ slotOf own s cs xs t
-  stands-advanced cs xs t = sym (slot-advances own s cs xs t (w .sound))
+  stands-advanced cs xs t = sym (slot-advances own s cs xs t sound)
 
   module _ (cs : List ℕ) (counted : length cs ≡ 576) where
     unfaulted : callFault s cs ≡ 0
-    unfaulted = call-when s cs .1 (counted, passes-sound s .0 (w .sound))
+    unfaulted = call-when s cs .1 (counted, passes-sound s .0 sound)
 
     pub stands-started : (ds : List ℕ) → ds ≡ zeros (length cs) → (accepted 0, ds) ≡ answered (startOf s cs)
     unfolding answered valued
@@ -122,17 +117,17 @@ module _ (s : Site) (w : Standing s) where
     pub stands-ruled : (others : Ruling) → checked (callFault s cs) others ≡ others
     stands-ruled others = sym (call-passes s cs 0 (sym unfaulted) others refl others refl)
 
-    pub admit-standing : (f : Flow) → accepted tt ≡ flowRuling s f → (f .number < 64) × Standing (withFlow s f)
-    unfolding admitRuling withFlow
+    pub admit-standing : (f : Flow) → accepted tt ≡ flowRuling s f → (f .number < 64) × (passesOf (withFlow s f) ≡ true)
+    unfolding admitRuling
     admit-standing f e =
         let a = admits-when s cs f .0 (stands-ruled _ ∙ sym e) in
-        (omega (arith, a .good .within .number-most), record { sound = admitted-passes s cs f a; some = w .some })
+        (omega (arith, a .good .within .number-most), admitted-passes s cs f a)
 
-    pub release-standing : (n : ℕ) → accepted tt ≡ numberRuling s n → (n < 64) × Standing (withoutFlow s n)
-    unfolding releaseRuling withoutFlow
+    pub release-standing : (n : ℕ) → accepted tt ≡ numberRuling s n → (n < 64) × (passesOf (withoutFlow s n) ≡ true)
+    unfolding releaseRuling
     release-standing n e =
         let a = releases-when s cs n .0 (stands-ruled _ ∙ sym e) in
-        (omega (arith, a .few), record { sound = flow-taken s (w .sound) n; some = w .some })
+        (omega (arith, a .few), flow-taken s sound n)
 
 -- A change and its new bytes, by its own checks: `q` is what they say, and `r` the ruling of the whole call.
 module _ (s next : Site) (cs new out : List ℕ) (r q : Ruling) (same : r ≡ q) where

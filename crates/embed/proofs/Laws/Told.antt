@@ -19,7 +19,7 @@ use Rattle.site.specs.Reservations.{unfit, firstUnfit, sumTo, gapsJudged, along
 use Rattle.site.proofs.Laws.Reservations.{sum-more}
 use Rattle.limits.specs.Limits.{flowLimits}
 use Rattle.schedule_file.specs.declared.Schedule.{Schedule}
-use Rattle.writer.specs.Write.{planBytes, scheduleBytes, written, encoded, handedFault, writtenUnless}
+use Rattle.writer.specs.Write.{planBytes, scheduleBytes, written, encoded, handed}
 use Rattle.writer.proofs.Laws.Write.{plan-size, nodes-few, flows-few, links-few, schedule-size}
 use Rattle.format.specs.Commands.{sizeOf, scheduleSize}
 use Rattle.admission.specs.Calls.{unfitLink, routeFor, flowRuling, numberRuling}
@@ -155,16 +155,13 @@ module _ (bytes out : List ℕ) where
       go true e = refusal-fitting 14 0 out (omega arith) (omega arith)
       go false e = written-fitting (few (ltb-false _ _ e))
 
-  pub unless-fitting : (t : Bool) (links : ℕ) → (t ≡ true → length bytes ≤ 763) → (o : Outcome ℕ) (ds : List ℕ) → (o, ds) ≡ writtenUnless (handedFault t links) bytes out
-      → Tellable o × Short o
-  unfolding writtenUnless handedFault
-  unless-fitting t links few o ds e = rw (ap (λ (q : Outcome ℕ × List ℕ). q .0) e) (go t few (eqb links 0))
+  pub handed-fitting : (p : Bool) → (p ≡ true → length bytes ≤ 763) → (o : Outcome ℕ) (ds : List ℕ) → (o, ds) ≡ handed p bytes out → Tellable o × Short o
+  unfolding handed
+  handed-fitting p few o ds e = rw (ap (λ (q : Outcome ℕ × List ℕ). q .0) e) (go p few)
     where
-      go : (a : Bool) → (a ≡ true → length bytes ≤ 763) → (b : Bool)
-          → Fitting (cond (eqb (cond a (cond b 9 0) 14) 0) (written bytes out) (refused (cond a (cond b 9 0) 14) 0, out))
-      go true few true = refusal-fitting 9 0 out (omega arith) (omega arith)
-      go true few false = written-fitting (few refl)
-      go false few b = refusal-fitting 14 0 out (omega arith) (omega arith)
+      go : (a : Bool) → (a ≡ true → length bytes ≤ 763) → Fitting (cond a (written bytes out) (refused 14 0, out))
+      go true few = written-fitting (few refl)
+      go false few = refusal-fitting 14 0 out (omega arith) (omega arith)
 
 pub plan-few : (s : Site) → s .links ≤ 63 → length (planBytes s) ≤ 763
 plan-few s l = omega (arith, plan-size s (sizeOf 1) refl _ refl, nodes-few s (sizeOf 1) refl l, flows-few s)

@@ -4,7 +4,7 @@ use mathlib.Core.Path.{_∙_}
 use Rattle.schedule_file.proofs.Laws.{passes-listed}
 use Rattle.embed.specs.Calls.{scheduleWrittenFrom}
 use Rattle.embed.proofs.Laws.Calls.{of-length, off-length}
-use Rattle.embed.proofs.Laws.Told.{unless-fitting, schedule-few}
+use Rattle.embed.proofs.Laws.Told.{handed-fitting, schedule-few}
 use Rattle.embed.proofs.slotplan_write_schedule.Statement.{statement}
 use Rattle.embed.proofs.slotplan_write_schedule.Tie as tie
 
@@ -32,7 +32,7 @@ write-schedule-of-requires : tie.Need-write-schedule-of-requires
 write-schedule-of-requires c κs = search needs
 
 size-requires : tie.Need-size-requires
-size-requires c κs = unless-fitting _ _ _ _ (λ e. schedule-few _ (passes-listed _ .0 e .few)) _ _ (c .before .before .write-schedule-of .ensures)
+size-requires c κs = handed-fitting _ _ _ (λ e. schedule-few _ (passes-listed _ .0 e .few)) _ _ (c .before .before .write-schedule-of .ensures)
 
 same-length : tie.Need-same-length
 same-length c = search needs

@@ -114,32 +114,20 @@ module _ {A B : Type 0} (k : Kind A B) (bytes : List ℕ) where
     pub stops : (a : A) → Holds 0 a → Stopped
     stops a w = stops-from (length bytes) 0 a (omega arith) w
 
--- The three ways that END ends.
-pub data EndWay {B : Type 0} (size at links : ℕ) (b : B) : Type 0 where
-  bare : links ≡ 0 → ended size at links b ≡ refused 9 at → EndWay size at links b
-  more : 1 ≤ links → at + 1 < size → ended size at links b ≡ refused 10 (at + 1) → EndWay size at links b
-  last : 1 ≤ links → size ≤ at + 1 → ended size at links b ≡ accepted b → EndWay size at links b
-
-module _ {B : Type 0} (size at links : ℕ) (b : B) where
-  pub ended-bare : links ≡ 0 → ended size at links b ≡ refused 9 at
+-- The two ways that END ends.
+module _ {B : Type 0} (size at : ℕ) (b : B) where
+  pub ended-more : at + 1 < size → ended size at b ≡ refused 10 (at + 1)
   unfolding ended
-  ended-bare z = simp (eq-eqb _ _ z)
+  ended-more l = rw (lt-ltb _ _ l)
 
-  pub ended-more : (links ≡ 0 → ⊥) → at + 1 < size → ended size at links b ≡ refused 10 (at + 1)
+  pub ended-last : size ≤ at + 1 → ended size at b ≡ accepted b
   unfolding ended
-  ended-more n l = simp (ne-eqb _ _ n, lt-ltb _ _ l)
+  ended-last l = rw (le-ltb _ _ l)
 
-  pub ended-last : (links ≡ 0 → ⊥) → size ≤ at + 1 → ended size at links b ≡ accepted b
-  unfolding ended
-  ended-last n l = simp (ne-eqb _ _ n, le-ltb _ _ l)
-
-  pub end-way : EndWay size at links b
-  end-way = go (ℕ-discrete links 0) (lt-or-le (at + 1) size)
-    where
-      go : Dec (links ≡ 0) → (at + 1 < size) ⊎ (size ≤ at + 1) → EndWay size at links b
-      go (yes z) w = bare z (ended-bare z)
-      go (no n) (inl l) = more (omega arith) l (ended-more n l)
-      go (no n) (inr l) = last (omega arith) l (ended-last n l)
+-- Where a byte stands after END, how many there are does not matter.
+pub ended-alike : {B : Type 0} (m n at : ℕ) → at + 1 < m → at + 1 < n → (b : B) → ended m at b ≡ ended n at b
+unfolding ended
+ended-alike m n at l k b = rw (lt-ltb _ _ l, lt-ltb _ _ k)
 
 -- Bytes that agree in the first 1,024 places.
 pub record Agreeing (xs ys : List ℕ) : Type 0 where

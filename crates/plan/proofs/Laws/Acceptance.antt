@@ -24,19 +24,18 @@ use Rattle.plan.proofs.Laws.FromSites.{zeros, begun-read}
 use Rattle.plan.proofs.Laws.Refusals.{decode-form, decode-fails, form-numbers}
 
 -- The bytes of nodes and flows in form are read to them.
-pub decode-plan : (s : Site) → Formed s → 1 ≤ s .links → decode (planBytes s) ≡ accepted (withSchedule s zeros zeros)
+pub decode-plan : (s : Site) → Formed s → decode (planBytes s) ≡ accepted (withSchedule s zeros zeros)
 unfolding planBytes withSchedule
-decode-plan s g some =
+decode-plan s g =
     let at = length (commandBytes s) in
     let long : length (planBytes s) ≡ at + 1 = length-append (commandBytes s) (255 ∷ []) in
-    let n : s .links ≡ 0 → ⊥ = omega arith in
     let w = begun-read (planBytes s) at s g (omega arith) (take-at (commandBytes s) (255 ∷ []) at refl) in
     w .1 ∙ read-end plans (planBytes s) at _ (omega arith) (getD-append-seam (commandBytes s) 255 [] 0)
-    ∙ ended-last (length (planBytes s)) at (s .links) _ n (omega arith)
+    ∙ ended-last (length (planBytes s)) at _ (omega arith)
 
-pub read-plan : (s : Site) → Formed s → 1 ≤ s .links → readOf (planBytes s) ≡ judgeOf s
+pub read-plan : (s : Site) → Formed s → readOf (planBytes s) ≡ judgeOf s
 unfolding readOf judgeForm
-read-plan s g some = rw (decode-plan s g some) (judge-bare s _ _)
+read-plan s g = rw (decode-plan s g) (judge-bare s _ _)
 
 -- A writer of plan bytes does not look at the schedule.
 pub plan-scheduled : (s : Site) → planBytes (scheduled s) ≡ planBytes s
@@ -60,7 +59,7 @@ module _ (bytes : List ℕ) (small : Bytes bytes) where
   unfolding readOf judgeForm
   read-judged number place l = (
     λ e. go (decode bytes) refl e,
-    λ w. rw (w .1 .are) (read-plan (w .0) (w .1 .formed) (w .1 .some) ∙ w .2),
+    λ w. rw (w .1 .are) (read-plan (w .0) (w .1 .formed) ∙ w .2),
   )
     where
       go : (r : Outcome Site) → decode bytes ≡ r → judgeForm r ≡ refused number place

@@ -127,9 +127,9 @@ unfolding formerJudgeOf withSchedule firstCrowded crowded baseUnder dealtUnder g
 former-bare s os ps = rw (scheduled-bare s os ps)
 
 -- A former reading in its two steps, as `read-plan` and `read-form` have those of a reading now.
-pub former-plan : (s : Site) → Formed s → 1 ≤ s .links → formerRead (planBytes s) ≡ formerJudgeOf s
+pub former-plan : (s : Site) → Formed s → formerRead (planBytes s) ≡ formerJudgeOf s
 unfolding formerRead formerForm
-former-plan s g some = rw (decode-plan s g some) (former-bare s _ _)
+former-plan s g = rw (decode-plan s g) (former-bare s _ _)
 
 pub former-form : (bytes : List ℕ) → Bytes bytes → (t : Site) → formerRead bytes ≡ accepted t → (s : Site) × InForm bytes s × (formerJudgeOf s ≡ accepted t)
 unfolding formerRead formerForm

@@ -22,7 +22,7 @@ use Rattle.writer.specs.Write.{commandBytes, planBytes}
 use Rattle.schedule_file.specs.declared.Schedule.{Schedule}
 use Rattle.schedule_file.specs.Read.{scheduleRead}
 use Rattle.writer.proofs.Laws.Write.{plan-size, nodes-few, flows-few, links-size, links-few}
-use Rattle.plan.specs.Words.{Begun, FormFails, no-end, command, bare-end, more}
+use Rattle.plan.specs.Words.{Begun, FormFails, no-end, command, more}
 use Rattle.plan.specs.ScheduleWords.{ScheduleBegun, ScheduleFails}
 use Rattle.plan.proofs.Laws.Faults.{first-numbers}
 use Rattle.plan.proofs.Laws.Refusals.{decode-fails}
@@ -78,8 +78,7 @@ form-near : (bytes : List ℕ) (number place : ℕ) → FormFails bytes number p
 form-near bytes number place (no-end s w e n) = (omega arith, omega (arith, begun-near bytes place s w))
 form-near bytes number place (command s w l t f) =
     (first-numbers bytes place s number f .0, omega (arith, begun-near bytes place s w))
-form-near bytes number place (bare-end s w l t z n) = (omega arith, omega (arith, begun-near bytes place s w))
-form-near bytes number place (more s at w t o e l n) = (omega arith, omega (arith, begun-near bytes at s w))
+form-near bytes number place (more s at w t e l n) = (omega arith, omega (arith, begun-near bytes at s w))
 
 pub read-near : (bytes : List ℕ) → Bytes bytes → Near 763 (readOf bytes)
 unfolding readOf judgeForm
@@ -107,5 +106,4 @@ schedule-near bytes small number place e = go (schedule-why bytes small number p
     go : ScheduleFails bytes number place → (1 ≤ number) × (place ≤ 763)
     go (no-end s w e n) = (omega arith, omega (arith, links-near bytes place s w))
     go (command s w l t f) = (check-numbers bytes place s number f .0, omega (arith, links-near bytes place s w))
-    go (bare-end s w l t z n) = (omega arith, omega (arith, links-near bytes place s w))
-    go (more s at w t o e l n) = (omega arith, omega (arith, links-near bytes at s w))
+    go (more s at w t e l n) = (omega arith, omega (arith, links-near bytes at s w))

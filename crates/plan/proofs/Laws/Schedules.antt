@@ -33,7 +33,7 @@ use Rattle.plan.specs.Words.{FirstOf}
 use Rattle.plan.specs.ScheduleWords.{ScheduleInForm, ScheduleBegun, linkChecks, ScheduleFails}
 use Rattle.plan.proofs.Laws.Lists.{upto, upto-more, upto-all, upto-zeros}
 use Rattle.plan.proofs.Laws.FromBytes.{byte, word}
-use Rattle.plan.proofs.Laws.Faults.{first-check, first-none, first-of-none, first-within}
+use Rattle.plan.proofs.Laws.Faults.{first-check, first-none, first-of-none, first-among}
 use Rattle.plan.proofs.Laws.Files.{InWords, Came, file-accepted, file-fails}
 
 -- The LINKs of a schedule.
@@ -238,9 +238,6 @@ reached-step bytes small at s r l b e =
 abbrev itself : Schedule → Schedule
 itself s = s
 
-abbrev linksOf : Schedule → ℕ
-linksOf s = s .links
-
 abbrev Ready : Schedule → Type 0
 Ready s = Unit {0}
 
@@ -254,20 +251,23 @@ module _ (bytes : List ℕ) where
       (λ _. first-check _ 21 _ n _ _ (order-fails (s .links) (linkAt bytes at .node))
       (λ _. first-check _ 22 _ n _ _ (fails-when _ _ (slots-when (linkAt bytes at .offset) (linkAt bytes at .period))) (λ _. first-none n some))))
 
-  pub check-numbers : (at : ℕ) (s : Schedule) (n : ℕ) → FirstOf (linkChecks bytes at s) n → (1 ≤ n) × (n ≤ 22)
-  check-numbers at s n =
-      first-within 22 3 n _ _ (omega arith) (omega arith) (first-within 22 2 n _ _ (omega arith) (omega arith)
-      (first-within 22 21 n _ _ (omega arith) (omega arith) (first-within 22 22 n _ _ (omega arith) (omega arith) (λ f. absurd (first-of-none n f)))))
+  abbrev NotNine : ℕ → Type 0
+  NotNine n = (1 ≤ n) × (n ≡ 9 → ⊥)
 
-  in-words : InWords schedules bytes itself linksOf itself (linkChecks bytes) Ready
+  pub check-numbers : (at : ℕ) (s : Schedule) (n : ℕ) → FirstOf (linkChecks bytes at s) n → NotNine n
+  check-numbers at s n =
+      first-among NotNine 3 n _ _ (omega arith, omega arith) (first-among NotNine 2 n _ _ (omega arith, omega arith)
+      (first-among NotNine 21 n _ _ (omega arith, omega arith) (first-among NotNine 22 n _ _ (omega arith, omega arith) (λ f. absurd (first-of-none n f)))))
+
+  in-words : InWords schedules bytes itself itself (linkChecks bytes) Ready
   in-words = record { ends = λ size at s. refl; first = check-first; some = λ at s n f. check-numbers at s n f .0 }
 
-  came : Bytes bytes → Came schedules bytes (scheduleRead bytes) itself linksOf itself (ScheduleBegun bytes) (linkChecks bytes) Ready in-words
+  came : Bytes bytes → Came schedules bytes (scheduleRead bytes) itself itself (ScheduleBegun bytes) (linkChecks bytes) Ready in-words
   came small =
       go (way.stops schedules bytes (Reached bytes) (λ at s r. r .within) (λ at s r l b e. reached-step bytes small at s r l b e) withoutLinks (reached-start bytes))
     where
       go : (m : ℕ) × (s : Schedule) × Reached bytes m s × Stop schedules bytes m s
-          → Came schedules bytes (scheduleRead bytes) itself linksOf itself (ScheduleBegun bytes) (linkChecks bytes) Ready in-words
+          → Came schedules bytes (scheduleRead bytes) itself itself (ScheduleBegun bytes) (linkChecks bytes) Ready in-words
       go (m, s, r, stop) = (
         m,
         s,
@@ -283,24 +283,23 @@ module _ (bytes : List ℕ) where
 
   pub schedule-why : Bytes bytes → (number place : ℕ) → (scheduleRead bytes ≡ refused number place) ↔ ScheduleFails bytes number place
   schedule-why small number place =
-      file-fails schedules bytes _ itself linksOf itself _ _ Ready in-words number place (came small) (λ at s b. (s, refl, tt, begun-read bytes at s b))
+      file-fails schedules bytes _ itself itself _ _ Ready in-words number place (came small) (λ at s b. (s, refl, tt, begun-read bytes at s b))
 
   pub schedule-form : Bytes bytes → (s : Schedule) → scheduleRead bytes ≡ accepted s → ScheduleInForm bytes s
   unfolding scheduleBytes
-  schedule-form small s e = go (file-accepted schedules bytes _ itself linksOf itself _ _ Ready in-words (came small) s e)
+  schedule-form small s e = go (file-accepted schedules bytes _ itself itself _ _ Ready in-words (came small) s e)
     where
-      go : (m : ℕ) × (a : Schedule) × ScheduleBegun bytes m a × (1 ≤ a .links) × (a ≡ s) × (drop m bytes ≡ 255 ∷ []) → ScheduleInForm bytes s
-      go (m, a, b, some, same, rest) =
-          rw (← same) (record { listed = b .listed; some = some; are = sym (take-append-drop m bytes) ∙ rw (b .are, rest) })
+      go : (m : ℕ) × (a : Schedule) × ScheduleBegun bytes m a × (a ≡ s) × (drop m bytes ≡ 255 ∷ []) → ScheduleInForm bytes s
+      go (m, a, b, same, rest) =
+          rw (← same) (record { listed = b .listed; are = sym (take-append-drop m bytes) ∙ rw (b .are, rest) })
 
 -- The bytes of a schedule in form are read to it.
-pub schedule-read : (s : Schedule) → Listed s → 1 ≤ s .links → scheduleRead (scheduleBytes s) ≡ accepted s
+pub schedule-read : (s : Schedule) → Listed s → scheduleRead (scheduleBytes s) ≡ accepted s
 unfolding scheduleBytes
-schedule-read s g some =
+schedule-read s g =
     let at = length (links s) in
     let long : length (scheduleBytes s) ≡ at + 1 = length-append (links s) (255 ∷ []) in
     let begun : ScheduleBegun (scheduleBytes s) at s = record { listed = g; within = omega arith; are = take-at (links s) (255 ∷ []) at refl } in
-    let n : s .links ≡ 0 → ⊥ = omega arith in
     begun-read (scheduleBytes s) at s begun
     ∙ read-end schedules (scheduleBytes s) at s (omega arith) (getD-append-seam (links s) 255 [] 0)
-    ∙ ended-last (length (scheduleBytes s)) at (s .links) s n (omega arith)
+    ∙ ended-last (length (scheduleBytes s)) at s (omega arith)

@@ -12,10 +12,11 @@ use Rattle.pinwheel.specs.Outcome.{Outcome, Ruling, refused}
 use Rattle.schedule.specs.Judge.{withSite, judgeOf}
 use Rattle.format.specs.Commands.{sizeOf}
 use Rattle.format.proofs.Laws.{number-one, number-two}
-use Rattle.format.proofs.Laws.Reading.{fault-later, ended-bare, ended-more, ended-last}
+use Rattle.format.specs.Reading.{ended}
+use Rattle.format.proofs.Laws.Reading.{fault-later, ended-more, ended-last}
 use Rattle.limits.specs.declared.Node.{Node}
 use Rattle.reader.specs.Read.{Draft, nodeAt, flowAt, nodeFault, flowFault}
-use Rattle.reader.specs.Read.{laterFault, endOf, plans, fault, judgeForm}
+use Rattle.reader.specs.Read.{laterFault, plans, fault, judgeForm}
 use Rattle.limits.proofs.Laws.Forms.{node-good, flow-good}
 use Rattle.pinwheel.proofs.Laws.Choices.{passed}
 use Rattle.limits.specs.Words.{NodeGood}
@@ -86,14 +87,10 @@ judged o = withSite (judgeForm o)
 
 -- END at index `at`.
 module _ (size at : ℕ) (s : Site) where
-  pub end-bare : s .links ≡ 0 → withSite (refused 9 at) ≡ withSite (judgeForm (endOf size at s))
+  pub end-more : at + 1 < size → withSite (refused 10 (at + 1)) ≡ withSite (judgeForm (ended size at s))
   unfolding judgeForm
-  end-bare e = ap judged (sym (ended-bare size at (s .links) s e))
+  end-more l = ap judged (sym (ended-more size at s l))
 
-  pub end-more : (s .links ≡ 0 → ⊥) → at + 1 < size → withSite (refused 10 (at + 1)) ≡ withSite (judgeForm (endOf size at s))
+  pub end-last : size ≤ at + 1 → withSite (judgeOf s) ≡ withSite (judgeForm (ended size at s))
   unfolding judgeForm
-  end-more n l = ap judged (sym (ended-more size at (s .links) s n l))
-
-  pub end-last : (s .links ≡ 0 → ⊥) → size ≤ at + 1 → withSite (judgeOf s) ≡ withSite (judgeForm (endOf size at s))
-  unfolding judgeForm
-  end-last n l = ap judged (sym (ended-last size at (s .links) s n l))
+  end-last l = ap judged (sym (ended-last size at s l))

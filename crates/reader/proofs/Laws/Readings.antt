@@ -9,12 +9,11 @@ use native.Mathlib.Omega.{arith}
 use Rattle.site.specs.declared.Flow.{Flow}
 use Rattle.site.specs.Sites.{withFlow}
 use Rattle.format.specs.Commands.{sizeOf}
-use Rattle.format.specs.Reading.{ended}
 use Rattle.format.proofs.Laws.{size-most}
-use Rattle.format.proofs.Laws.Reading.{Agreeing, Settled, read-first}
+use Rattle.format.proofs.Laws.Reading.{ended-alike, Agreeing, Settled, read-first}
 use Rattle.limits.specs.declared.Node.{Node}
 use Rattle.reader.specs.Read.{Draft, nodeAt, flowAt, nodeFault, flowFault}
-use Rattle.reader.specs.Read.{laterFault, withNode, nodeAdded, flowAdded, after, endOf, plans, fault, blank, decode}
+use Rattle.reader.specs.Read.{laterFault, withNode, nodeAdded, flowAdded, after, plans, fault, blank, decode}
 use Rattle.reader.proofs.Laws.Commands.{node-room, flow-number, node-at, flow-at}
 use Rattle.reader.proofs.Laws.Decode.{fault-none}
 
@@ -72,10 +71,6 @@ module _ (xs ys : List ℕ) (w : Agreeing xs ys) (at : ℕ) (room : at + 5 < 102
   unfolding after
   after-alike d = rw (w .same at (omega arith), node-alike, flow-alike)
 
-end-alike : (m n at : ℕ) → at + 1 < m → at + 1 < n → (d : Draft) → endOf m at (d .site) ≡ endOf n at (d .site)
-unfolding ended
-end-alike m n at l k d = rw (lt-ltb _ _ l, lt-ltb _ _ k)
-
 settled : Settled plans Within
 settled = record {
   most = within-most;
@@ -83,7 +78,7 @@ settled = record {
   kept = within-more;
   later-alike = later-alike;
   after-alike = after-alike;
-  end-alike = end-alike;
+  end-alike = λ m n at l k d. ended-alike m n at l k (d .site);
 }
 
 -- The first 1,024 bytes settle every reading.

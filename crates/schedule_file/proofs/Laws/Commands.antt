@@ -12,10 +12,11 @@ use Rattle.pinwheel.specs.Outcome.{accepted, refused, orElse}
 use Rattle.pinwheel.proofs.Laws.Choices.{passed, neither}
 use Rattle.pinwheel.proofs.Laws.Search.{lt-or-le}
 use Rattle.format.proofs.Laws.{number-one, number-two}
-use Rattle.format.proofs.Laws.Reading.{ended-bare, ended-more, ended-last}
+use Rattle.format.specs.Reading.{ended}
+use Rattle.format.proofs.Laws.Reading.{ended-more, ended-last}
 use Rattle.schedule_file.specs.declared.Link.{Link}
 use Rattle.schedule_file.specs.declared.Schedule.{Schedule}
-use Rattle.schedule_file.specs.Read.{withLinks, linkAt, outOfOrder, badSlots, linkFault, endOf}
+use Rattle.schedule_file.specs.Read.{withLinks, linkAt, outOfOrder, badSlots, linkFault}
 use Rattle.schedule_file.specs.Words.{SlotsWithin}
 
 -- 21.
@@ -99,12 +100,9 @@ link-at bytes at n o p en eo ep =
 
 -- END at index `at`.
 module _ (size at : ℕ) (s : Schedule) where
-  pub end-bare : s .links ≡ 0 → withLinks (refused 9 at) ≡ withLinks (endOf size at s)
-  end-bare e = ap withLinks (sym (ended-bare size at (s .links) s e))
+  pub end-more : at + 1 < size → withLinks (refused 10 (at + 1)) ≡ withLinks (ended size at s)
+  end-more l = ap withLinks (sym (ended-more size at s l))
 
-  pub end-more : (s .links ≡ 0 → ⊥) → at + 1 < size → withLinks (refused 10 (at + 1)) ≡ withLinks (endOf size at s)
-  end-more n l = ap withLinks (sym (ended-more size at (s .links) s n l))
-
-  pub end-last : (s .links ≡ 0 → ⊥) → size ≤ at + 1 → (accepted tt, s) ≡ withLinks (endOf size at s)
+  pub end-last : size ≤ at + 1 → (accepted tt, s) ≡ withLinks (ended size at s)
   unfolding withLinks orElse
-  end-last n l = ap withLinks (sym (ended-last size at (s .links) s n l))
+  end-last l = ap withLinks (sym (ended-last size at s l))

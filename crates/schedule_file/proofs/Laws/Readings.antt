@@ -6,12 +6,11 @@ use lib.ListN.{length, getD, take}
 use borrow.Author.Tests.{lt-ltb}
 use native.Mathlib.Omega.{arith}
 use Rattle.format.specs.Commands.{scheduleSize}
-use Rattle.format.specs.Reading.{ended}
 use Rattle.format.proofs.Laws.{link-most, size-is-link}
-use Rattle.format.proofs.Laws.Reading.{readOn, read-go, fault-passed, Agreeing, Settled, read-first}
+use Rattle.format.proofs.Laws.Reading.{readOn, read-go, fault-passed, ended-alike, Agreeing, Settled, read-first}
 use Rattle.schedule_file.specs.declared.Link.{Link}
 use Rattle.schedule_file.specs.declared.Schedule.{Schedule}
-use Rattle.schedule_file.specs.Read.{withoutLinks, linkAt, linkAdded, endOf, schedules, fault, scheduleRead}
+use Rattle.schedule_file.specs.Read.{withoutLinks, linkAt, linkAdded, schedules, fault, scheduleRead}
 use Rattle.schedule_file.proofs.Laws.Commands.{link-passed, link-at}
 
 pub schedule-start : (bytes : List ℕ) → scheduleRead bytes ≡ readOn schedules bytes 0 withoutLinks
@@ -48,10 +47,6 @@ link-alike xs ys w at room = sym (link-at xs at _ _ _ refl refl refl)
     (rw (w .same (at + 2) (omega arith), w .same (at + 3) (omega arith)))
     (rw (w .same (at + 4) (omega arith), w .same (at + 5) (omega arith)))
 
-end-alike : (m n at : ℕ) → at + 1 < m → at + 1 < n → (s : Schedule) → endOf m at s ≡ endOf n at s
-unfolding ended
-end-alike m n at l k s = rw (lt-ltb _ _ l, lt-ltb _ _ k)
-
 settled : Settled schedules Within
 settled = record {
   most = λ at s w. omega (arith, w .place, w .few);
@@ -59,7 +54,7 @@ settled = record {
   kept = within-more;
   later-alike = λ xs ys w at room s. rw (link-alike xs ys w at room);
   after-alike = λ xs ys w at room s. rw (link-alike xs ys w at room);
-  end-alike = end-alike;
+  end-alike = ended-alike;
 }
 
 pub schedule-settled : (bytes : List ℕ) (n : ℕ) → 1024 ≤ n → scheduleRead (take n bytes) ≡ scheduleRead bytes

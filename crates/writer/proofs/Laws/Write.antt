@@ -3,10 +3,9 @@ use Prim.Native.Nat.{ℕ, zero, suc, _+_, _-_, _*_, _≤_, _<_}
 use mathlib.Core.Path.{_≡_, refl, sym, _∙_, ap}
 use mathlib.Core.Bool.{Bool, true, false, not, cond}
 use mathlib.Core.List.{List, [], _∷_, _++_}
-use lib.Dec.{eqb}
 use lib.ListN.{length, getD, set, drop, length-append, drop-of-length-le}
 use lib.Seq.{sets, length-sets, sets-eq, drop-cons}
-use borrow.Author.Tests.{lt-ltb, le-ltb, eq-eqb, ne-eqb, eqb-false, not-true, not-false}
+use borrow.Author.Tests.{lt-ltb, le-ltb, ne-eqb, not-true, not-false}
 use native.Mathlib.Nat.{zero-add, mul-suc}
 use native.Mathlib.Numerals.{add-one}
 use native.Mathlib.Omega.{arith}
@@ -16,10 +15,9 @@ use Rattle.site.specs.Sites.{live}
 use Rattle.format.specs.Bytes.{bytesOf}
 use Rattle.format.specs.Commands.{sizeOf, scheduleSize}
 use Rattle.schedule_file.specs.declared.Schedule.{Schedule}
-use Rattle.writer.specs.Write.{nodeCommand, nodeBytes, flowCommand, flowBytes, linkCommand, linkBytes, flowIfLive, commandBytes, planBytes, scheduleBytes, written, encoded, handedFault, writtenUnless}
+use Rattle.writer.specs.Write.{nodeCommand, nodeBytes, flowCommand, flowBytes, linkCommand, linkBytes, flowIfLive, commandBytes, planBytes, scheduleBytes, written, encoded, handed}
 use Rattle.pinwheel.specs.Search.{joined}
 use Rattle.pinwheel.proofs.Laws.Items.{joined-next}
-use Rattle.pinwheel.proofs.Laws.Choices.{passed}
 
 sets-append : (d : List ℕ) (at : ℕ) (xs ys : List ℕ) → sets d at (xs ++ ys) ≡ sets (sets d at xs) (at + length xs) ys
 sets-append d at [] ys = let e : at + 0 ≡ at = omega arith in rw e
@@ -228,27 +226,7 @@ module _ (s : Schedule) where
   unfolding scheduleBytes
   schedule-stored out a end p e = rw (sets-append out 0 (joined (linkBytes s) (s .links) 0) (255 ∷ []), zero-add, ← p, ← e)
 
--- The checks of what is handed to a writer.
-module _ (t : Bool) (links : ℕ) where
-  pub fault-ill : not t ≡ true → 14 ≡ handedFault t links
-  unfolding handedFault
-  fault-ill e = rw (not-true t e)
-
-  pub fault-bare : not t ≡ false → links ≡ 0 → 9 ≡ handedFault t links
-  unfolding handedFault
-  fault-bare e z = rw (not-false t e, z)
-
-  pub fault-neither : not t ≡ false → (links ≡ 0 → ⊥) → 0 ≡ handedFault t links
-  unfolding handedFault
-  fault-neither e n = rw (not-false t e, ne-eqb _ _ n)
-
--- What passes 14 and fails neither check has links.
-pub fault-passed : (t : Bool) (links : ℕ) → handedFault t links ≡ 0 → (t ≡ true) × (1 ≤ links)
-unfolding handedFault
-fault-passed true links e = let b = passed (eqb links 0) 9 0 (omega arith) e in let n : links ≡ 0 → ⊥ = eqb-false _ _ (b .0) in (refl, omega arith)
-fault-passed false links e = absurd (omega arith)
-
--- The answers without the two checks, and with them.
+-- The answers without check 14.
 module _ (links : ℕ) (bytes out : List ℕ) where
   pub encoded-many : 63 < links → (refused 14 0, out) ≡ encoded links bytes out
   unfolding encoded
@@ -258,12 +236,14 @@ module _ (links : ℕ) (bytes out : List ℕ) where
   unfolding encoded
   encoded-few l a q = q ∙ rw (le-ltb _ _ l)
 
-  -- t says whether 14 lets pass, which nothing with more than 63 links does.
-  module _ (t : Bool) (few : t ≡ true → links ≤ 63) (f : ℕ) (is : f ≡ handedFault t links) where
-    pub written-well : (a : Outcome ℕ × List ℕ) → f ≡ 0 → a ≡ encoded links bytes out → a ≡ writtenUnless (handedFault t links) bytes out
-    unfolding writtenUnless encoded
-    written-well a z q = q ∙ rw (le-ltb _ _ (few (fault-passed t links (sym is ∙ z) .0)), ← is, eq-eqb _ _ z)
+-- The answers with it. p is the check, and t what it came to.
+module _ (p t : Bool) (is : t ≡ p) (bytes out : List ℕ) where
+  pub handed-ill : not t ≡ true → (refused 14 0, out) ≡ handed p bytes out
+  unfolding handed
+  handed-ill e = rw (← is, not-true t e)
 
-pub written-faulty : (bytes out : List ℕ) (f fault : ℕ) → f ≡ fault → (f ≡ 0 → ⊥) → (refused f 0, out) ≡ writtenUnless fault bytes out
-unfolding writtenUnless
-written-faulty bytes out f fault is n = rw (← is, ne-eqb _ _ n)
+  -- Nothing with more than 63 links passes.
+  pub handed-well : (links : ℕ) → (p ≡ true → links ≤ 63) → not t ≡ false → (a : Outcome ℕ × List ℕ) → a ≡ encoded links bytes out
+      → a ≡ handed p bytes out
+  unfolding handed encoded
+  handed-well links few e a q = let pass : p ≡ true = sym is ∙ not-false t e in q ∙ rw (le-ltb _ _ (few pass), pass)

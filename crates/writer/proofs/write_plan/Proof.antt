@@ -1,24 +1,15 @@
--- Right because the checks of the site come before the writing, which judges the slice.
+-- Right because check 14 of the site comes before the writing, which judges the slice.
 use borrow.Author.Needs.{needs}
-use mathlib.Core.Path.{_≡_, _∙_, ap}
-use mathlib.Core.Bool.{Bool}
 use Rattle.limits.proofs.Laws.Check.{passes-few}
-use Rattle.writer.specs.Write.{siteFault, handedFault}
-use Rattle.writer.proofs.Laws.Write.{written-faulty, written-well}
+use Rattle.writer.proofs.Laws.Write.{handed-ill, handed-well}
 use Rattle.writer.proofs.write_plan.Statement.{statement}
 use Rattle.writer.proofs.write_plan.Tie as tie
-
-faulty : (c : tie.After-handed-fault) → c .handed-fault .result ≡ siteFault (c .before .before .before .args .site)
-faulty c = c .handed-fault .ensures ∙ ap (λ (t : Bool). handedFault t (c .before .before .before .args .site .links)) (c .before .passes .ensures)
 
 passes-requires : tie.Need-passes-requires
 passes-requires c κs = search needs
 
-handed-fault-requires : tie.Need-handed-fault-requires
-handed-fault-requires c κs = search needs
-
 returns : tie.Need-returns
-returns c = written-faulty _ _ _ _ (faulty (c .before)) (c .if1 .taken)
+returns c = handed-ill _ _ (c .before .passes .ensures) _ _ (c .if1 .taken)
 
 encode-plan-requires : tie.Need-encode-plan-requires
 encode-plan-requires c κs = search needs
@@ -27,16 +18,9 @@ same-length : tie.Need-same-length
 same-length c = search needs
 
 returns-2 : tie.Need-returns-2
-returns-2 c = let asked = c .before .before .before .before .before in
-    written-well _ _ _ _ (passes-few _) _ (faulty asked) _ (c .before .before .before .before .if1 .left) (c .before .before .encode-plan .ensures)
+returns-2 c =
+    handed-well _ _ (c .before .before .before .before .before .passes .ensures) _ _ _ (passes-few _) (c .before .before .before .before .if1 .left)
+    _ (c .before .before .encode-plan .ensures)
 
 pub write-plan-spec : {M : Type 1} → statement M
-write-plan-spec =
-    tie.close
-    (tie.spec
-    passes-requires
-    handed-fault-requires
-    returns
-    encode-plan-requires
-    same-length
-    returns-2)
+write-plan-spec = tie.close (tie.spec passes-requires returns encode-plan-requires same-length returns-2)

@@ -1,4 +1,4 @@
--- Right because the checks of the change are all that is left to ask on a standing site.
+-- Right because the checks of the change are all that is left to ask on a site that passes check 14.
 use borrow.Author.Needs.{needs}
 use mathlib.Core.Path.{sym, _∙_, ap}
 use native.Mathlib.Omega.{arith}

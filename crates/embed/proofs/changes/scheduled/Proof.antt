@@ -1,4 +1,4 @@
--- Right because the site is a standing one, so that its checks need not be asked again.
+-- Right because check 14 lets the site pass, and need not be asked again.
 use borrow.Author.Needs.{needs}
 use mathlib.Core.Path.{_∙_}
 use Rattle.writer.specs.Write.{scheduleOf}
