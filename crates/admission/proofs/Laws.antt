@@ -123,7 +123,7 @@ admit-unlinked counters f long within =
   where
     nowhere : (entry : ℕ) (low : Bool) → (eqb entry 0 || (ltb 0 entry || low)) ≡ true
     nowhere zero low = refl
-    nowhere (suc entry) low = refl
+    nowhere (suc entry) low = let some : suc entry ≡ 0 → ⊥ = omega arith in rw (ne-eqb (suc entry) 0 some, lt-ltb 0 (suc entry) (omega arith))
 
 -- What a change tells that was accepted, and one that was refused: by any ruling.
 module _ (r : Ruling) (next s t : Site) (new counters ds : List ℕ) where

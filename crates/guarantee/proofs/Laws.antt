@@ -23,7 +23,7 @@ use Rattle.site.specs.Reservations.{gapsJudged, routeOf, widthOn, late, delayBo
 use Rattle.site.proofs.Laws.Reservations.{live-with}
 use Rattle.limits.specs.Check.{flowOf, passesOf}
 use Rattle.limits.proofs.Laws.{passes-sound, flow-taken, bound-within}
-use Rattle.limits.proofs.Laws.Flows.{live-few, live-fits}
+use Rattle.limits.proofs.Laws.Flows.{live-few}
 use Rattle.counters.specs.Blocks.{cellsOf}
 use Rattle.counters.proofs.Laws.{length-zeros}
 use Rattle.queues.specs.Cells.{Entry, steps, arrivals}

@@ -13,7 +13,7 @@ pub mod Schedules
 pub mod SiteSchedules
 pub mod Near
 pub mod Former
-use Prim.Native.Nat.{ℕ, _+_, _≤_}
+use Prim.Native.Nat.{ℕ, suc, _+_, _<_, _≤_}
 use mathlib.Core.Path.{_≡_, refl, sym, _∙_, ap}
 use mathlib.Core.Bool.{Bool, true, false, false≢true}
 use mathlib.Core.List.{List, [], _∷_, _++_}
@@ -35,11 +35,11 @@ use Rattle.limits.proofs.Laws.Forms.{formed-gapped}
 use Rattle.limits.proofs.Laws.Passing.{judged-when, passes-parts, judged-passes}
 use Rattle.limits.proofs.Laws.Empty.{empty-passes, linkless-empty}
 use Rattle.format.specs.Commands.{sizeOf}
-use Rattle.format.specs.Reading.{ended, readFrom}
 use Rattle.format.specs.Words.{Bytes}
-use Rattle.reader.specs.Read.{decode, judgeForm, readOf}
+use Rattle.format.proofs.Laws.Reading.{readOn, read-end, ended-more}
+use Rattle.reader.specs.Read.{plans, blank, decode, judgeForm, readOf}
 use Rattle.schedule_file.specs.declared.Schedule.{Schedule}
-use Rattle.schedule_file.specs.Read.{withoutLinks, scheduleRead}
+use Rattle.schedule_file.specs.Read.{withoutLinks, schedules, scheduleRead}
 use Rattle.schedule_file.specs.Check.{schedulePasses}
 use Rattle.schedule_file.proofs.Laws.{passes-listed}
 use Rattle.writer.specs.Write.{flowIfLive, commandBytes, planBytes, scheduleOf, scheduleBytes, written, handed, writtenIf, scheduleWritten}
@@ -139,13 +139,13 @@ passes-when s = (
 
 -- A writer gives 14 just where the check does not let pass what is handed in.
 foreign : (p : Bool) (bytes out : List ℕ) (P : Type 0) → ((p ≡ true) ↔ P) → (handed p bytes out ≡ (refused 14 0, out)) ↔ (P → ⊥)
+unfolding handed
 foreign p bytes out P when = (
   λ e x. ⊎-elim (λ w. false≢true (sym (w .0) ∙ when .1 x)) (λ w. absurd (omega (arith, w .1))) (written-refused p bytes out out 14 0 e),
   λ n. go p refl n,
 )
   where
     go : (a : Bool) → p ≡ a → (P → ⊥) → handed a bytes out ≡ (refused 14 0, out)
-    unfolding handed
     go true e n = absurd (n (when .0 e))
     go false e n = refl
 
@@ -266,8 +266,12 @@ schedule-unlinked s e z = listed-without s (passes-listed s .0 e) z
 
 -- A byte after an END that comes first is refused by 10, in plans and in schedules.
 pub end-first : (byte : ℕ) (rest : List ℕ) → (readOf (255 ∷ byte ∷ rest) ≡ refused 10 1) × (scheduleRead (255 ∷ byte ∷ rest) ≡ refused 10 1)
-unfolding readOf judgeForm decode scheduleRead readFrom ended
-end-first byte rest = (refl, refl)
+unfolding readOf judgeForm decode scheduleRead readOn
+end-first byte rest =
+    let long : 0 + 1 < suc (suc (length rest)) = omega arith in (
+      ap judgeForm (read-end plans (255 ∷ byte ∷ rest) 0 blank (omega arith) refl ∙ ended-more _ _ _ long),
+      read-end schedules (255 ∷ byte ∷ rest) 0 withoutLinks (omega arith) refl ∙ ended-more _ _ _ long,
+    )
 
 -- And 9 no longer occurs: not for plans, not for schedules, not for writers.
 pub plan-without-9 : (bytes : List ℕ) → Bytes bytes → (place : ℕ) → readOf bytes ≡ refused 9 place → ⊥
