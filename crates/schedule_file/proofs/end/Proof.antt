@@ -16,7 +16,7 @@ refusal-requires : tie.Need-refusal-requires
 refusal-requires c κs = search needs
 
 returns : tie.Need-returns
-returns c = c .refusal .ensures ∙ end-more _ _ _ (c .before .if1 .taken)
+returns c = c .refusal .ensures ∙ end-more _ _ _ (omega arith)
 
 returns-2 : tie.Need-returns-2
 returns-2 c = end-last _ _ _ (omega arith)
