@@ -77,11 +77,8 @@ fn add_flow(site: &mut Site, operands: &[u8], at: usize) -> Result<(), Refusal> 
     Ok(())
 }
 
-/// END after so many links.
-pub fn check_end(links: u64, bytes: &[u8], at: usize) -> Result<(), Refusal> {
-    if links == 0 {
-        return refuse(9, at);
-    }
+/// Check 10, where END is.
+pub fn check_end(bytes: &[u8], at: usize) -> Result<(), Refusal> {
     if at + 1 < bytes.len() {
         return refuse(10, at + 1);
     }
@@ -101,7 +98,7 @@ pub fn read_dealt(bytes: &[u8]) -> Result<Site, Refusal> {
         }
         at += COMMAND_LENGTH;
     }
-    check_end(site.links, bytes, at)?;
+    check_end(bytes, at)?;
     site.deal_all()?;
     Ok(site)
 }
@@ -166,7 +163,7 @@ fn schedule_bytes(site: &Site) -> Vec<u8> {
 /// Check 14. Only the site's own plan bytes can read to it: each operand is an entry of the site.
 /// Reading leaves every entry that is not in use at 0, so comparing whole values judges those too.
 pub fn passes_check_14(site: &Site) -> bool {
-    *site == Site::empty() || read_plan(&plan_bytes(site)).as_ref() == Ok(site)
+    read_plan(&plan_bytes(site)).as_ref() == Ok(site)
 }
 
 pub fn check_14(site: &Site) -> Result<(), Refusal> {
@@ -176,11 +173,8 @@ pub fn check_14(site: &Site) -> Result<(), Refusal> {
     Ok(())
 }
 
-/// 01: 9 comes before 1, which judges the slice.
-pub fn fill(slice: &mut [u8], links: u64, bytes: &[u8]) -> Result<usize, Refusal> {
-    if links == 0 {
-        return refuse(9, 0);
-    }
+/// 01: the slice that a writer fills is judged last.
+pub fn fill(slice: &mut [u8], bytes: &[u8]) -> Result<usize, Refusal> {
     if slice.len() < bytes.len() {
         return refuse(1, 0);
     }
@@ -191,13 +185,13 @@ pub fn fill(slice: &mut [u8], links: u64, bytes: &[u8]) -> Result<usize, Refusal
 /// The number of bytes written, the rest of the slice unchanged.
 pub fn write_plan(site: &Site, slice: &mut [u8]) -> Result<usize, Refusal> {
     check_14(site)?;
-    fill(slice, site.links, &plan_bytes(site))
+    fill(slice, &plan_bytes(site))
 }
 
 /// The number of bytes written, the rest of the slice unchanged.
 pub fn write_schedule(site: &Site, slice: &mut [u8]) -> Result<usize, Refusal> {
     check_14(site)?;
-    fill(slice, site.links, &schedule_bytes(site))
+    fill(slice, &schedule_bytes(site))
 }
 
 pub type Writer = fn(&Site, &mut [u8]) -> Result<usize, Refusal>;
@@ -263,7 +257,35 @@ mod tests {
         assert_eq!(refusal(&plan_p(9, 6)), (13, 0));
         assert_eq!(refusal(&plan_p(8, 7)), (12, 3));
         assert_eq!(refusal(&[]), (2, 0));
-        assert_eq!(refusal(&[0xFF]), (9, 0));
+    }
+
+    /// 02, U3.
+    #[test]
+    fn end_alone_reads_to_the_site_without_links() {
+        assert_eq!(read_plan(&[0xFF]), Ok(Site::empty()));
+        for behind in [&[0][..], &[END], &plan_p(9, 7)[..]] {
+            assert_eq!(refusal(&[&[END], behind].concat()), (10, 1));
+        }
+    }
+
+    /// With no NODE every entry node is refused by 6, unless 5 or a missing operand comes first.
+    #[test]
+    fn a_flow_with_no_node_is_refused_at_its_offset() {
+        let file = |command: Vec<u8>| [&command[..], &[END]].concat();
+        for entry in [0, 1, 2, 255] {
+            assert_eq!(refusal(&file(flow_command(0, entry, 1, 1))), (6, 0));
+            let beyond = [[64, 1, 1], [255, 1, 1], [0, 0, 1], [0, 1, 0]];
+            for [number, rate, deadline] in beyond {
+                let flow = flow_command(number, entry, rate, deadline);
+                assert_eq!(refusal(&file(flow)), (5, 0));
+            }
+        }
+        assert_eq!(refusal(&flow_command(0, 1, 1, 1)[..5]), (2, 0));
+        assert_eq!(
+            refusal(&file(flow_command(0, 1, 1, 1)[..4].to_vec())),
+            (2, 0)
+        );
+        assert_eq!(refusal(&[LINK, END]), (3, 0));
     }
 
     #[test]
@@ -279,10 +301,24 @@ mod tests {
     fn writers_judge_the_site_before_the_slice() {
         let site = read_plan(&plan_p(9, 7)).unwrap();
         assert_eq!(write_plan(&site, &mut [0; 24]), refuse(1, 0));
-        assert_eq!(write_plan(&Site::empty(), &mut []), refuse(9, 0));
-        let mut altered = site;
-        altered.gaps[62] = 1;
-        assert_eq!(write_schedule(&altered, &mut []), refuse(14, 0));
+        for mut altered in [site, Site::empty()] {
+            altered.gaps[62] = 1;
+            assert_eq!(write_plan(&altered, &mut []), refuse(14, 0));
+            assert_eq!(write_schedule(&altered, &mut []), refuse(14, 0));
+        }
+    }
+
+    #[test]
+    fn the_site_without_links_is_written_as_end_alone() {
+        for writer in [write_plan, write_schedule] {
+            assert_eq!(writer(&Site::empty(), &mut []), refuse(1, 0));
+            for room in 1..9 {
+                let mut slice = vec![0xAA; room];
+                assert_eq!(writer(&Site::empty(), &mut slice), Ok(1));
+                assert_eq!(slice[0], END);
+                assert!(slice[1..].iter().all(|&byte| byte == 0xAA));
+            }
+        }
     }
 
     #[test]
@@ -300,6 +336,29 @@ mod tests {
         ];
         for alter in alterations {
             let mut altered = site.clone();
+            alter(&mut altered);
+            assert!(!passes_check_14(&altered), "{altered:?}");
+        }
+    }
+
+    /// The plan bytes of each such site are END alone or no plan's.
+    #[test]
+    fn without_links_only_the_empty_site_passes() {
+        let alterations: [fn(&mut Site); 11] = [
+            |site| site.links = 1,
+            |site| site.links = 63,
+            |site| site.parents[0] = 1,
+            |site| site.capacities[0] = 1,
+            |site| site.gaps[62] = 1,
+            |site| site.offsets[0] = 1,
+            |site| site.periods[62] = 1,
+            |site| site.states[0] = 1,
+            |site| site.entries[63] = 1,
+            |site| site.rates[0] = 1,
+            |site| site.deadlines[63] = 1,
+        ];
+        for alter in alterations {
+            let mut altered = Site::empty();
             alter(&mut altered);
             assert!(!passes_check_14(&altered), "{altered:?}");
         }

@@ -106,7 +106,7 @@ mod tests {
             (&[0x11, 1, 1, 0, 1, 0], [63, 63], refuse(22, 0)),
             (&[0x11, 1, 1, 0, 1, 4], [63, 63], refuse(22, 0)),
             (&[0x11, 1, 1, 0, 0, 4], [63, 63], refuse(2, 6)),
-            (&[0xFF, 0xFF], [63, 63], refuse(9, 0)),
+            (&[0xFF, 0xFF], [63, 63], refuse(10, 1)),
             (&[0x11, 1, 1, 0, 0, 4, 0x11, 1], [63, 63], refuse(2, 6)),
             (&[0x11, 1, 1, 0, 0, 4, 0xFF, 1], [63, 63], refuse(10, 7)),
             (&[0x11, 1, 1, 0, 0, 4, 0xFF], [63, 63], Ok(1)),
@@ -144,7 +144,8 @@ mod tests {
             (1, lists([1, 1025], 5), [63, 63], 0, refuse(14, 0)),
             (1, lists([1, 2], 5), [63, 63], 0, refuse(14, 0)),
             (0, lists([1, 2], 0), [63, 63], 0, refuse(14, 0)),
-            (0, lists([0, 0], 0), [63, 63], 0, refuse(9, 0)),
+            (0, lists([0, 0], 0), [63, 63], 0, refuse(1, 0)),
+            (0, lists([0, 0], 0), [63, 63], 2, Ok(1)),
             (1, lists([1, 2], 0), [63, 63], 6, refuse(1, 0)),
             (1, lists([1, 2], 0), [63, 63], 8, Ok(7)),
         ];
@@ -155,11 +156,119 @@ mod tests {
                 let answer = (functions.write_schedule)(links, offsets, periods, &mut out);
                 assert_eq!(answer, expected);
                 let written: &[u8] = match answer {
+                    Ok(1) => &[0xFF, 9],
                     Ok(_) => &[0x11, 1, 1, 0, 2, 0, 0xFF, 9],
                     Err(_) => &[9; 6][..room],
                 };
                 assert_eq!(out, written);
             }
+        }
+    }
+
+    /// 02, U3: END alone is the plan of the site without links.
+    #[test]
+    fn end_alone_is_a_plan_like_any_other() {
+        let wired = [0xFF];
+        for functions in ALL {
+            assert_eq!((functions.mark)(&wired), Ok(0));
+            assert_eq!((functions.mark)(&[0xFF, 0]), refuse(10, 1));
+            assert_eq!((functions.sender)(&wired, 0, 0), Ok(0));
+            assert_eq!((functions.sender)(&wired, 0, u32::MAX), Ok(0));
+            assert_eq!((functions.sender)(&wired, 1, 0), refuse(6, 0));
+            assert_eq!((functions.sender)(&wired, 255, 0), refuse(6, 0));
+            assert_eq!((functions.sender)(&[0xFF, 0], 0, 0), refuse(14, 0));
+            assert_eq!((functions.bound)(&wired, 0), refuse(16, 0));
+            assert_eq!((functions.bound)(&wired, 63), refuse(16, 63));
+            assert_eq!((functions.bound)(&wired, 64), refuse(5, 0));
+            for (room, expected) in [(0, refuse(1, 0)), (1, Ok(1)), (3, Ok(1))] {
+                let mut out = [9; 3];
+                assert_eq!((functions.schedule)(&wired, &mut out[..room]), expected);
+                let first = if expected.is_ok() { 0xFF } else { 9 };
+                assert_eq!(out, [first, 9, 9]);
+            }
+        }
+    }
+
+    /// No flow can enter, so none is live. From one line to the next the first failing check is mended.
+    #[test]
+    fn without_links_no_flow_is_taken_in_or_let_go() {
+        let admissions = [
+            (575, flow(64, 1, 1, 1), refuse(1, 0)),
+            (577, flow(64, 1, 1, 1), refuse(1, 0)),
+            (576, flow(64, 1, 1, 1), refuse(5, 0)),
+            (576, flow(0, 1, 0, 1), refuse(5, 0)),
+            (576, flow(0, 1, 1, 0), refuse(5, 0)),
+            (576, flow(0, 1, 1, 1), refuse(6, 0)),
+            (576, flow(63, 0, 255, 65_535), refuse(6, 0)),
+            (576, flow(63, 255, 255, 65_535), refuse(6, 0)),
+        ];
+        let releases = [
+            (577, 64, refuse(1, 0)),
+            (576, 64, refuse(5, 0)),
+            (576, 63, refuse(16, 63)),
+        ];
+        for functions in ALL {
+            let (mut counters, mut out) = ([7; COUNTERS + 1], [9; 13]);
+            for (lent, flow, expected) in admissions {
+                let cells = &mut counters[..lent];
+                assert_eq!((functions.admit)(&[0xFF], cells, flow, &mut out), expected);
+            }
+            for (lent, number, expected) in releases {
+                let cells = &mut counters[..lent];
+                let answer = (functions.release)(&[0xFF], cells, number, &mut out);
+                assert_eq!(answer, expected);
+            }
+            assert_eq!((counters, out), ([7; COUNTERS + 1], [9; 13]));
+        }
+    }
+
+    /// A slot has nothing to move, and no number may have arrivals. All cells are of numbers not live.
+    #[test]
+    fn without_links_slots_pass_and_a_start_clears_the_counters() {
+        let (none, mut some) = ([0; 65], [0; 65]);
+        some[63] = 1;
+        let lines = [
+            (577, &some[..64], refuse(1, 0)),
+            (576, &some[..], refuse(1, 0)),
+            (576, &some[..63], refuse(1, 0)),
+            (576, &some[..64], refuse(20, 63)),
+            (576, &none[..64], Ok(0)),
+        ];
+        for functions in ALL {
+            let mut counters = [u32::MAX; COUNTERS + 1];
+            for (lent, arrivals, expected) in lines {
+                let cells = &mut counters[..lent];
+                assert_eq!((functions.slot)(&[0xFF], cells, arrivals, 5), expected);
+                assert_eq!(counters, [u32::MAX; COUNTERS + 1]);
+            }
+            let start = |cells: &mut [u32]| (functions.start)(&[0xFF], cells);
+            assert_eq!(start(&mut counters), refuse(1, 0));
+            assert_eq!(counters, [u32::MAX; COUNTERS + 1]);
+            assert_eq!(start(&mut counters[..COUNTERS]), Ok(0));
+            assert_eq!(counters[..COUNTERS], [0; COUNTERS]);
+            assert_eq!(counters[COUNTERS], u32::MAX);
+        }
+    }
+
+    #[test]
+    fn end_alone_reads_to_the_schedule_without_links() {
+        for functions in ALL {
+            let (mut offsets, mut periods) = ([7; 64], [8; 64]);
+            let filled = (&mut offsets[..63], &mut periods[..63]);
+            let answer = (functions.read_schedule)(&[0xFF], filled.0, filled.1);
+            assert_eq!(answer, Ok(0));
+            assert_eq!((offsets[63], periods[63]), (7, 8));
+            assert_eq!(
+                (&offsets[..63], &periods[..63]),
+                (&[0; 63][..], &[0; 63][..])
+            );
+            let mut out = [9; 2];
+            let lists = [&offsets[..63], &periods[..63]];
+            assert_eq!(
+                (functions.write_schedule)(0, lists[0], lists[1], &mut out),
+                Ok(1)
+            );
+            assert_eq!(out, [0xFF, 9]);
         }
     }
 

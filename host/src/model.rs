@@ -45,7 +45,7 @@ pub fn write_schedule(links: u8, offsets: &[u16], periods: &[u16], out: &mut [u8
     write_schedule_of(&schedule, out).map(|length| length as u64)
 }
 
-/// No bytes read to the empty site, so 14 judges here whether the bytes are accepted, and nothing else.
+/// The site that is handed in is the one that the bytes read to, so 14 judges whether they are accepted, and nothing else.
 fn site_of(plan: &[u8]) -> Result<Site, Refusal> {
     read_plan(plan).or_else(|_| refuse(14, 0))
 }

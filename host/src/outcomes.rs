@@ -27,12 +27,19 @@ const fn call(
 
 const ACCEPTED: &[&str] = &["accepted"];
 
+/// Of END alone besides, the plan and the schedule file without links.
+const ACCEPTED_WITHOUT_LINKS: &[&str] = &["accepted", "accepted links 0 "];
+
 pub const PLANS: &[Call] = &[call(
     ["", ""],
-    ACCEPTED,
-    &[2, 3, 4, 5, 6, 7, 8, 9, 10, 11, 12, 13],
+    ACCEPTED_WITHOUT_LINKS,
+    &[2, 3, 4, 5, 6, 7, 8, 10, 11, 12, 13],
 )];
-pub const SITES: &[Call] = &[call(["", ""], &["passes", "does not pass"], &[])];
+pub const SITES: &[Call] = &[call(
+    ["", ""],
+    &["passes", "passes, plan 1: FF", "does not pass"],
+    &[],
+)];
 pub const GAP_LISTS: &[Call] = &[call(["", ""], &["base"], &[1, 5, 11])];
 
 /// The calls of test_calls.
@@ -46,26 +53,36 @@ pub const CALLS: &[Call] = &[
 
 /// The lines of test_schedules: a schedule file, or a changed schedule that is written into at most 64 bytes.
 pub const SCHEDULES: &[Call] = &[
-    call(["", ""], ACCEPTED, &[2, 3, 21, 22, 9, 10]),
+    call(["", ""], ACCEPTED_WITHOUT_LINKS, &[2, 3, 21, 22, 10]),
     call(
         ["W", ""],
         &[
-            "schedule 7",
-            "schedule 13",
-            "schedule 19",
-            "schedule 25",
-            "schedule 31",
-            "schedule 37",
-            "schedule 43",
-            "schedule 49",
-            "schedule 55",
-            "schedule 61",
-            "schedule refused 14 0",
-            "schedule refused 9 0",
-            "schedule refused 1 0",
+            "schedule 1:",
+            "schedule 7:",
+            "schedule 13:",
+            "schedule 19:",
+            "schedule 25:",
+            "schedule 31:",
+            "schedule 37:",
+            "schedule 43:",
+            "schedule 49:",
+            "schedule 55:",
+            "schedule 61:",
+            "schedule refused 14 0:",
+            "schedule refused 1 0:",
         ],
         &[],
     ),
+];
+
+/// The calls of test_calls on the site without links, or while it is altered.
+#[cfg(test)]
+pub const CALLS_WITHOUT_LINKS: &[Call] = &[
+    call(["A", "admission "], &[], &[1, 14, 5, 6]),
+    call(["R", "release "], &[], &[1, 14, 5, 16]),
+    call(["L", "lookup "], &["sender 0"], &[14, 6]),
+    call(["T", "start "], ACCEPTED, &[1, 14]),
+    call(["S", "slot "], ACCEPTED, &[1, 14, 20]),
 ];
 
 /// The calls of rehearse. Its site passes check 14, and it lends lists of the right lengths.
@@ -77,9 +94,25 @@ pub const SESSIONS: &[Call] = &[
     call(["sender", "lookup "], &["sender"], &[6]),
     call(["cells", ""], &["cells"], &[]),
     call(["bound", ""], &["bound", "not live"], &[]),
-    call(["plan", "plan beginning "], &["01"], &[]),
-    call(["schedule", "schedule beginning "], &["11"], &[]),
-    call(["show", "show beginning "], &["link"], &[]),
+    call(["plan", "plan beginning "], &["01", "FF"], &[]),
+    call(["schedule", "schedule beginning "], &["11", "FF"], &[]),
+    call(["show", "show beginning "], &["link", "accepted"], &[]),
+    call(["", ""], &["error"], &[]),
+];
+
+/// The calls of rehearse on the plan of END alone.
+#[cfg(test)]
+pub const SESSIONS_WITHOUT_LINKS: &[Call] = &[
+    call(["start", "start "], ACCEPTED, &[]),
+    call(["slot", "slot "], ACCEPTED, &[20]),
+    call(["admit", "admission "], &[], &[5, 6]),
+    call(["release", "release "], &[], &[5, 16]),
+    call(["sender", "lookup "], &["sender 0"], &[6]),
+    call(["cells", ""], &["cells 0 0 0 0 0 0 0 0 0"], &[]),
+    call(["bound", ""], &["not live"], &[]),
+    call(["plan", "plan "], &["FF"], &[]),
+    call(["schedule", "schedule "], &["FF"], &[]),
+    call(["show", "show "], &["accepted links 0 flows 0"], &[]),
     call(["", ""], &["error"], &[]),
 ];
 
@@ -88,19 +121,19 @@ pub const FUNCTIONS: &[Call] = &[
     call(
         ["mark", "mark "],
         ACCEPTED,
-        &[2, 3, 4, 5, 6, 7, 8, 9, 10, 11, 12, 13],
+        &[2, 3, 4, 5, 6, 7, 8, 10, 11, 12, 13],
     ),
     call(
         ["schedule", "schedule "],
         ACCEPTED,
-        &[2, 3, 4, 5, 6, 7, 8, 9, 10, 11, 12, 13, 1],
+        &[2, 3, 4, 5, 6, 7, 8, 10, 11, 12, 13, 1],
     ),
     call(
         ["read_schedule", "read_schedule "],
         ACCEPTED,
-        &[1, 2, 3, 21, 22, 9, 10],
+        &[1, 2, 3, 21, 22, 10],
     ),
-    call(["write_schedule", "write_schedule "], ACCEPTED, &[1, 14, 9]),
+    call(["write_schedule", "write_schedule "], ACCEPTED, &[1, 14]),
     call(["admit", "admit "], ACCEPTED, &[1, 14, 5, 6, 15, 17, 18]),
     call(["release", "release "], ACCEPTED, &[1, 14, 5, 16]),
     call(["start", "start "], ACCEPTED, &[1, 14]),
@@ -108,6 +141,20 @@ pub const FUNCTIONS: &[Call] = &[
     call(["sender", "sender "], ACCEPTED, &[14, 6]),
     call(["bound", "bound "], ACCEPTED, &[14, 5, 16]),
     call(["deal", "deal "], ACCEPTED, &[1, 5, 11]),
+];
+
+/// The functions on END alone as plan or schedule file, and of a schedule without links written.
+pub const FUNCTIONS_WITHOUT_LINKS: &[Call] = &[
+    call(["mark", "mark "], ACCEPTED, &[]),
+    call(["schedule", "schedule "], ACCEPTED, &[1]),
+    call(["read_schedule", "read_schedule "], ACCEPTED, &[1]),
+    call(["write_schedule", "write_schedule "], ACCEPTED, &[1, 14]),
+    call(["admit", "admit "], &[], &[1, 5, 6]),
+    call(["release", "release "], &[], &[1, 5, 16]),
+    call(["start", "start "], ACCEPTED, &[1]),
+    call(["slot", "slot "], ACCEPTED, &[1, 20]),
+    call(["sender", "sender "], ACCEPTED, &[6]),
+    call(["bound", "bound "], &[], &[5, 16]),
 ];
 
 struct Outcome {
@@ -126,7 +173,10 @@ impl Call {
             count: 0,
         };
         let answers = self.answers.iter();
-        let answers = answers.map(|&answer| outcome(answer.to_string(), answer.to_string()));
+        let answers = answers.map(|&answer| {
+            let shown = answer.trim_end_matches([' ', ':']);
+            outcome(answer.to_string(), shown.to_string())
+        });
         let refusals = self.refusals.iter();
         let refusals =
             refusals.map(|number| outcome(format!("refused {number} "), number.to_string()));

@@ -45,7 +45,7 @@ pub fn read_schedule(file: &[u8], offsets: &mut [u16], periods: &mut [u16]) -> A
     Ok(schedule.links as u64)
 }
 
-/// 1 for the lists, 14, 9, 1 for the buffer.
+/// 1 for the lists, 14, 1 for the buffer.
 pub fn write_schedule(links: u8, offsets: &[u16], periods: &[u16], out: &mut [u8]) -> Answer {
     if offsets.len() != MOST_LINKS || periods.len() != MOST_LINKS {
         return refuse(1, 0);
@@ -53,9 +53,6 @@ pub fn write_schedule(links: u8, offsets: &[u16], periods: &[u16], out: &mut [u8
     let links = usize::from(links);
     if !is_sound(links, offsets, periods) {
         return refuse(14, 0);
-    }
-    if links == 0 {
-        return refuse(9, 0);
     }
     let length = links * COMMAND_LENGTH + 1;
     let Some(out) = out.get_mut(..length) else {
@@ -68,6 +65,14 @@ pub fn write_schedule(links: u8, offsets: &[u16], periods: &[u16], out: &mut [u8
     }
     out[length - 1] = END;
     Ok(length as u64)
+}
+
+/// 10.
+fn check_end(bytes: &[u8], at: usize) -> Result<(), Refusal> {
+    if at + 1 < bytes.len() {
+        return refuse(10, at + 1);
+    }
+    Ok(())
 }
 
 /// Check 14 as the library makes it: the bytes are refused, by whichever check.

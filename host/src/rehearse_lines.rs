@@ -189,6 +189,21 @@ mod tests {
     }
 
     #[test]
+    fn every_call_is_answered_without_links() {
+        let input =
+            "start\nslot 0\nslot 4294967295 0=0\nslot 1 63=1\nadmit 5 0 3 6\nadmit 5 1 3 6\n\
+            admit 64 1 3 6\nadmit 5 1 0 6\nadmit 5 1 3 0\nrelease 5\nrelease 64\nsender 0 0\n\
+            sender 0 4294967295\nsender 1 0\nsender 255 0\nbound 5\ncells 5\nplan\nschedule\nshow\n\
+            cells 64\n";
+        let expected = "accepted links 0 flows 0\n\
+            accepted\naccepted\naccepted\nrefused 20 63\nrefused 6 0\nrefused 6 0\n\
+            refused 5 0\nrefused 5 0\nrefused 5 0\nrefused 16 5\nrefused 5 0\nsender 0\n\
+            sender 0\nrefused 6 0\nrefused 6 0\nnot live\ncells 0 0 0 0 0 0 0 0 0\nFF\nFF\n\
+            accepted links 0 flows 0\nerror\n";
+        assert_eq!(rehearse(Some(&[0xFF]), input.as_bytes()).0, expected);
+    }
+
+    #[test]
     fn lines_that_say_nothing_are_passed_over() {
         assert_eq!(on_p("\n   \n# start\n#\n"), "");
         let (spaces, remark) = (" ".repeat(1000), "#".repeat(1000));
@@ -230,6 +245,7 @@ mod tests {
     fn without_an_accepted_plan_there_is_one_line() {
         assert_eq!(rehearse(None, b"start\n").0, "error\n");
         assert_eq!(rehearse(Some(&[]), b"start\n").0, "refused 2 0\n");
+        assert_eq!(rehearse(Some(&[0xFF; 2]), b"start\n").0, "refused 10 1\n");
         assert_eq!(
             rehearse(Some(&plan_p(9, 6)), b"start\n").0,
             "refused 13 0\n"

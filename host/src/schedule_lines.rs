@@ -103,6 +103,8 @@ mod tests {
         assert_eq!(readschedule(&file), expected);
         assert_eq!(output("readschedule", &file).unwrap(), expected);
         assert_eq!(readschedule(&file[..18]), "refused 2 18\n");
+        assert_eq!(readschedule(&[0xFF]), "accepted links 0\n");
+        assert_eq!(readschedule(&[0xFF, 0x0A]), "refused 10 1\n");
     }
 
     /// The program reads no more than 1,024 bytes.
@@ -124,10 +126,11 @@ mod tests {
 
     #[test]
     fn files_are_read_and_written_again() {
-        let lines = ["# a remark", "", OF_P, "11 01 00 00 01 00 11 03", "FF 11"];
+        let cut = "11 01 00 00 01 00 11 03";
+        let lines = ["# a remark", "", OF_P, cut, "FF 11", "FF"];
         let without_2 = "11 01 00 00 01 00 11 03 00 00 01 00 FF";
         let expected = "# a remark\nrefused 2 0\naccepted links 3 written 19 equal\n\
-            refused 2 6\nrefused 9 0\nrefused 21 6\n";
+            refused 2 6\nrefused 10 1\naccepted links 0 written 1 equal\nrefused 21 6\n";
         assert_eq!(printed(&[&lines[..], &[without_2]].concat()), expected);
     }
 
@@ -141,7 +144,7 @@ mod tests {
             "W 20 0 0 2 1 2 0 2 2 0",
             "W 20",
         ];
-        let expected = "schedule refused 9 0: 64 65\n\
+        let expected = "schedule 1: FF 65\n\
             accepted links 3 written 19 equal\n\
             schedule refused 14 0: 64 65\n\
             schedule refused 1 0: 64\n\
@@ -153,9 +156,10 @@ mod tests {
     #[test]
     fn a_refused_file_leaves_no_links() {
         let expected = "accepted links 3 written 19 equal\nrefused 2 0\n\
-            schedule refused 9 0:\nschedule refused 14 0:\n\
+            schedule refused 1 0:\nschedule 1: FF\nschedule refused 14 0:\n\
             schedule 7: 11 01 04 00 05 00 FF\n";
-        let lines = [OF_P, "11", "W 0", "W 0 2 62 1", "W 7 0 9 1 1 0 4 2 0 5"];
+        let one = "W 7 0 9 1 1 0 4 2 0 5";
+        let lines = [OF_P, "11", "W 0", "W 1", "W 0 2 62 1", one];
         assert_eq!(printed(&lines), expected);
     }
 

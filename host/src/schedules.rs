@@ -1,4 +1,4 @@
-//! Document 02, U1: schedule bytes read, and a schedule written that is handed in.
+//! Document 02, U1: schedule bytes read, and a schedule written that is handed in. With U3, END alone is the one without links.
 
 use crate::bytes::{
     check_end, fill, link_command, of_16_bits, operands, COMMAND_LENGTH, END, LINK,
@@ -49,7 +49,7 @@ pub fn read_schedule(bytes: &[u8]) -> Result<Schedule, Refusal> {
         add_link(&mut schedule, operands, at)?;
         at += COMMAND_LENGTH;
     }
-    check_end(schedule.links, bytes, at)?;
+    check_end(bytes, at)?;
     Ok(schedule)
 }
 
@@ -68,16 +68,15 @@ fn schedule_bytes(schedule: &Schedule) -> Vec<u8> {
 /// Check 14. Only the schedule's own bytes can read to it: each operand is an entry of the schedule.
 /// Reading leaves every entry past the links at 0, so comparing whole values judges those too.
 fn passes_check_14(schedule: &Schedule) -> bool {
-    let bytes = schedule_bytes(schedule);
-    *schedule == Schedule::empty() || read_schedule(&bytes).as_ref() == Ok(schedule)
+    read_schedule(&schedule_bytes(schedule)).as_ref() == Ok(schedule)
 }
 
-/// The number of bytes written, the rest of the slice unchanged. 02: 14, then 9, and the slice last.
+/// The number of bytes written, the rest of the slice unchanged. 02: 14, and the slice last.
 pub fn write_schedule_of(schedule: &Schedule, slice: &mut [u8]) -> Result<usize, Refusal> {
     if !passes_check_14(schedule) {
         return refuse(14, 0);
     }
-    fill(slice, schedule.links, &schedule_bytes(schedule))
+    fill(slice, &schedule_bytes(schedule))
 }
 
 #[cfg(test)]
@@ -135,7 +134,7 @@ mod tests {
 
     #[test]
     fn an_accepted_file_is_written_as_it_was_read() {
-        for count in 1..=MOST_LINKS as u64 {
+        for count in 0..=MOST_LINKS as u64 {
             let bytes = rising_file(count);
             let schedule = read_schedule(&bytes).unwrap();
             assert_eq!(schedule.links, count);
@@ -224,11 +223,12 @@ mod tests {
     }
 
     #[test]
-    fn end_needs_a_link_before_it_and_nothing_behind_it() {
-        assert_eq!(refusal(&[END]), (9, 0));
-        assert_eq!(refusal(&[END, END]), (9, 0));
+    fn end_needs_nothing_before_it_and_nothing_behind_it() {
+        assert_eq!(read_schedule(&[END]), Ok(Schedule::empty()));
+        assert_eq!(refusal(&[END, 0]), (10, 1));
+        assert_eq!(refusal(&[END, END]), (10, 1));
+        assert_eq!(refusal(&[END, LINK, 1, 0, 0, 1, 0]), (10, 1));
         assert_eq!(refusal(&[&schedule_of_p()[..], &[END]].concat()), (10, 19));
-        assert_eq!(refusal(&[END, LINK, 1, 0, 0, 1, 0]), (9, 0));
     }
 
     /// From one line to the next the first failing check is mended; before that, the command behind is not reached.
@@ -312,7 +312,6 @@ mod tests {
     #[test]
     fn the_schedule_is_judged_before_the_slice() {
         let mut schedule = Schedule::empty();
-        assert_eq!(write_schedule_of(&schedule, &mut []), refuse(9, 0));
         schedule.periods[0] = 1;
         assert_eq!(write_schedule_of(&schedule, &mut []), refuse(14, 0));
         schedule.links = 1;
@@ -320,5 +319,35 @@ mod tests {
         assert_eq!(write_schedule_of(&schedule, &mut slice), refuse(1, 0));
         assert_eq!(slice, [0xAA; 6]);
         assert_eq!(write_schedule_of(&schedule, &mut [0; 7]), Ok(7));
+    }
+
+    #[test]
+    fn the_schedule_without_links_is_written_as_end_alone() {
+        let schedule = Schedule::empty();
+        assert_eq!(write_schedule_of(&schedule, &mut []), refuse(1, 0));
+        for room in 1..=3 {
+            let mut slice = [0xAA; 3];
+            assert_eq!(write_schedule_of(&schedule, &mut slice[..room]), Ok(1));
+            assert_eq!(slice, [END, 0xAA, 0xAA]);
+        }
+    }
+
+    #[test]
+    fn without_links_only_the_empty_schedule_passes() {
+        let changes: [fn(&mut Schedule); 6] = [
+            |schedule| schedule.links = 1,
+            |schedule| schedule.links = 63,
+            |schedule| schedule.offsets[0] = 1,
+            |schedule| schedule.offsets[62] = 1,
+            |schedule| schedule.periods[0] = 1,
+            |schedule| schedule.periods[62] = 1,
+        ];
+        for change in changes {
+            let mut changed = Schedule::empty();
+            change(&mut changed);
+            let mut slice = [0xAA; 400];
+            assert_eq!(write_schedule_of(&changed, &mut slice), refuse(14, 0));
+            assert_eq!(slice, [0xAA; 400], "{changed:?}");
+        }
     }
 }

@@ -150,7 +150,7 @@ mod tests {
 
     #[test]
     fn buffers_of_every_length_for_a_schedule() {
-        for links in [1, 3, 63] {
+        for links in [0, 1, 3, 63] {
             let file = file(links);
             let lists = lists(&file);
             for room in 0..=400 {

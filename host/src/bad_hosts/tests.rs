@@ -53,13 +53,32 @@ fn counters_of_every_length() {
         let number = if length == COUNTERS { 14 } else { 1 };
         let expected = [refuse(number, 0); 4];
         assert_eq!(answers.map(judged), expected, "{length} counters");
+        let mut wired = host(&[END], length, 64, 0);
+        let answers = [
+            wired.admit(NEW),
+            wired.release(0),
+            wired.start(),
+            wired.slot(4),
+        ];
+        let right = [refuse(6, 0), refuse(16, 0), Ok(0), Ok(0)];
+        let expected = if length == COUNTERS {
+            right
+        } else {
+            [refuse(1, 0); 4]
+        };
+        assert_eq!(answers.map(judged), expected, "{length} counters");
     }
 }
 
 #[test]
 fn arrivals_of_every_length() {
     for length in 0..=130 {
-        for (plan, right) in [(plan_p(9, 7), Ok(0)), (plan_p(9, 6), refuse(14, 0))] {
+        let plans = [
+            (plan_p(9, 7), Ok(0)),
+            (plan_p(9, 6), refuse(14, 0)),
+            (vec![END], Ok(0)),
+        ];
+        for (plan, right) in plans {
             let answer = judged(host(&plan, COUNTERS, length, 0).slot(4));
             let expected = if length == 64 { right } else { refuse(1, 0) };
             assert_eq!(answer, expected, "{length} arrivals");
@@ -104,6 +123,10 @@ fn buffers_of_every_length() {
         assert_eq!(judged(host.admit(last)), expected(763, room));
     }
     for room in 0..=60 {
+        let mut wired = host(&[END], COUNTERS, 64, room);
+        assert_eq!(judged(wired.schedule()), expected(1, room));
+        assert_eq!(judged(wired.admit(NEW)), refuse(6, 0));
+        assert_eq!(judged(wired.release(0)), refuse(16, 0));
         let mut host = host(&plan_p(9, 7), COUNTERS, 64, room);
         assert_eq!(judged(host.schedule()), expected(19, room));
         assert_eq!(judged(host.admit(NEW)), expected(31, room));

@@ -1,5 +1,6 @@
 //! A schedule in fixed arrays, read and judged in one pass over the bytes.
 
+use super::check_end;
 use crate::bytes::{COMMAND_LENGTH, END, LINK};
 use crate::rules::{refuse, Refusal, MOST_LINKS};
 
@@ -15,7 +16,7 @@ fn within_limits(offset: u16, period: u16) -> bool {
 }
 
 impl FixedSchedule {
-    /// For each command 3, 2, 21, 22, for END 9 and 10.
+    /// For each command 3, 2, 21, 22, for END 10.
     pub fn read(file: &[u8]) -> Result<FixedSchedule, Refusal> {
         let mut schedule = FixedSchedule {
             links: 0,
@@ -54,18 +55,8 @@ impl FixedSchedule {
     }
 }
 
-fn check_end(file: &[u8], at: usize) -> Result<(), Refusal> {
-    if at == 0 {
-        return refuse(9, at);
-    }
-    if at + 1 < file.len() {
-        return refuse(10, at + 1);
-    }
-    Ok(())
-}
-
-/// 14, for lists of 63: whether a file reads to the schedule, or it is the one without links. All entries are judged in any case,
-/// since the compiler then takes several at a time.
+/// 14, for lists of 63: whether a file reads to the schedule. All entries are judged in any case, since the compiler then takes
+/// several at a time.
 pub fn is_sound(links: usize, offsets: &[u16], periods: &[u16]) -> bool {
     if links > MOST_LINKS {
         return false;

@@ -1,5 +1,6 @@
 //! The site of a plan in fixed arrays, read and judged in one pass over the bytes.
 
+use super::check_end;
 use super::rule::deal;
 use crate::bytes::{COMMAND_LENGTH, END, FLOW, NODE};
 use crate::rules::{refuse, Refusal, FLOW_NUMBERS, MOST_DEPTH, MOST_LINKS};
@@ -70,12 +71,12 @@ impl FixedSite {
         Ok(site)
     }
 
-    /// For each command 3, 2, 4, 7, 5, 6, 8, for END 9 and 10.
+    /// For each command 3, 2, 4, 7, 5, 6, 8, for END 10.
     fn read_commands(&mut self, plan: &[u8]) -> Result<(), Refusal> {
         for (count, bytes) in plan.chunks(COMMAND_LENGTH).enumerate() {
             let at = count * COMMAND_LENGTH;
             let read = match (bytes[0], bytes) {
-                (END, _) => return self.check_end(plan, at),
+                (END, _) => return check_end(plan, at),
                 (NODE, &[_, parent, a, b, c, d]) => self.add_node(
                     parent,
                     u16::from_le_bytes([a, b]),
@@ -142,16 +143,6 @@ impl FixedSite {
     /// Half open, of which the compiler makes the shorter loop.
     pub fn nodes(&self) -> Range<usize> {
         1..self.links + 1
-    }
-
-    fn check_end(&self, plan: &[u8], at: usize) -> Result<(), Refusal> {
-        if self.links == 0 {
-            return refuse(9, at);
-        }
-        if at + 1 < plan.len() {
-            return refuse(10, at + 1);
-        }
-        Ok(())
     }
 
     /// The nodes in their order are handed to their parents' places in the list of children.
