@@ -303,8 +303,10 @@ pub fn watch_random(count: u64, seed: u64) -> u8 {
 #[cfg(test)]
 mod tests {
     use super::*;
-    use crate::bytes::read_plan;
+    use crate::bytes::{read_plan, END};
+    use crate::outcomes::CALLS_WITHOUT_LINKS;
     use crate::programs::Answered;
+    use crate::random_calls::call_lines_on;
 
     #[test]
     fn random_plans_meet_every_outcome() {
@@ -328,6 +330,30 @@ mod tests {
         for _ in 0..600 {
             let lines = call_lines(&mut random);
             let lines = answered_lines("test_calls", lines.as_bytes()).unwrap();
+            lines.iter().for_each(|line| tally.count(line));
+        }
+        assert!(tally.all_reach(10), "{tally}");
+    }
+
+    #[test]
+    fn random_calls_meet_every_outcome_without_links() {
+        let mut random = Random::from_seed(39);
+        let mut tally = Tally::new("", CALLS_WITHOUT_LINKS);
+        for _ in 0..600 {
+            let lines = call_lines_on(&mut random, &[END]);
+            let lines = answered_lines("test_calls", lines.as_bytes()).unwrap();
+            lines.iter().for_each(|line| tally.count(line));
+        }
+        assert!(tally.all_reach(3), "{tally}");
+    }
+
+    #[test]
+    fn random_altered_sites_meet_every_outcome() {
+        let mut random = Random::from_seed(40);
+        let mut tally = Tally::new("", SITES);
+        for _ in 0..600 {
+            let lines = altered_lines(&mut random);
+            let lines = answered_lines("test_altered", lines.as_bytes()).unwrap();
             lines.iter().for_each(|line| tally.count(line));
         }
         assert!(tally.all_reach(10), "{tally}");

@@ -9,7 +9,11 @@ use crate::rules::MOST_LINKS;
 pub fn random_plan(random: &mut Random) -> Vec<u8> {
     let mut commands = random_commands(random);
     if random.chance(30) {
-        damage_commands(random, &mut commands);
+        if commands.is_empty() {
+            commands.push(random_flow_command(random));
+        } else {
+            damage_commands(random, &mut commands);
+        }
     }
     let mut bytes = commands.concat();
     bytes.push(END);
@@ -24,6 +28,15 @@ pub fn undamaged_plan(random: &mut Random) -> Vec<u8> {
     let mut bytes = random_commands(random).concat();
     bytes.push(END);
     bytes
+}
+
+/// A FLOW that stands alone: 5 or 6 refuses it.
+fn random_flow_command(random: &mut Random) -> Vec<u8> {
+    let number = random.pick(&[0, 0, 63, 63, 64, 255]);
+    let entry = random.pick(&[0, 1, 1, 255]);
+    let rate = random.pick(&[0, 1, 1, 255]);
+    let deadline = random.pick(&[0, 1, 1, 65_535]);
+    flow_command(number, entry, rate, deadline)
 }
 
 fn damage_commands(random: &mut Random, commands: &mut Vec<Vec<u8>>) {
@@ -101,4 +114,34 @@ fn noise(random: &mut Random) -> Vec<u8> {
     (0..length)
         .map(|_| random.pick(&[0, 0, 0, 1, 1, 1, 2, 2, 3, 4, 9, 17, 64, END]))
         .collect()
+}
+
+#[cfg(test)]
+mod tests {
+    use super::*;
+    use crate::bytes::{read_plan, FLOW};
+
+    /// END alone, END with bytes behind it, and a FLOW with no NODE that 5 or 6 refuses.
+    #[test]
+    fn random_plans_are_near_the_site_without_links() {
+        let mut random = Random::from_seed(36);
+        let [mut alone, mut behind, mut by_5, mut by_6] = [0; 4];
+        for _ in 0..6000 {
+            let plan = random_plan(&mut random);
+            let answer = read_plan(&plan).map(|site| site.links);
+            let answer = answer.map_err(|refusal| (refusal.number, refusal.place));
+            match (plan.first(), answer) {
+                (Some(&END), Ok(0)) => alone += 1,
+                (Some(&END), answer) => {
+                    assert_eq!(answer, Err((10, 1)));
+                    behind += 1;
+                }
+                (Some(&FLOW), Err((5, 0))) => by_5 += 1,
+                (Some(&FLOW), Err((6, 0))) => by_6 += 1,
+                (_, answer) => assert_ne!(answer, Ok(0)),
+            }
+        }
+        assert!(alone >= 150 && behind >= 10, "{alone} {behind}");
+        assert!(by_5 >= 20 && by_6 >= 20, "{by_5} {by_6}");
+    }
 }

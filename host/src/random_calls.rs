@@ -101,15 +101,20 @@ impl Lines {
     }
 }
 
-/// Lines for test_calls: a plan, and calls on its site, a few of them while it is altered.
-/// Between the calls the counters are filled anew, so that it shows which of them a call sets to 0.
+/// Lines for test_calls: a plan, and calls on its site.
 pub fn call_lines(random: &mut Random) -> String {
     let (plan, _) = site_to_alter(random);
+    call_lines_on(random, &plan)
+}
+
+/// A few of the calls are made while the site is altered.
+/// Between the calls the counters are filled anew, so that it shows which of them a call sets to 0.
+pub fn call_lines_on(random: &mut Random, plan: &[u8]) -> String {
     let mut lines = Lines {
         text: String::new(),
         desk: Desk::new(),
     };
-    lines.add(&format!("P{}\nC\n", hex(&plan)));
+    lines.add(&format!("P{}\nC\n", hex(plan)));
     for _ in 0..random.between(3, 12) {
         if random.chance(12) {
             lines.add_alteration(random);
@@ -164,12 +169,14 @@ pub fn random_number(random: &mut Random, usual: &[usize], unusual: &[usize]) ->
     }
 }
 
+/// Mostly a node with a link. Without links the root or node 1.
 pub fn random_node(random: &mut Random, site: &Site) -> usize {
     let links = site.links as usize;
     match random.between(0, 29) {
         0 => 0,
         1 => random.pick(&[links + 1, links + 1, OF_8_BITS as usize]),
-        _ => random.between(1, site.links.max(1)) as usize,
+        _ if links == 0 => random.index(2),
+        _ => 1 + random.index(links),
     }
 }
 

@@ -25,9 +25,12 @@ enum Habit {
     UnderTheRoot,
 }
 
-/// The commands of a random plan, without END.
+/// The commands of a random plan, without END. A few plans have none, since a flow needs a node.
 pub fn random_commands(random: &mut Random) -> Vec<Vec<u8>> {
     let links = random_link_count(random);
+    if links == 0 {
+        return Vec::new();
+    }
     let parents = random_tree(random, links);
     let mut draft = Draft {
         capacities: vec![0; links],
@@ -51,7 +54,8 @@ pub fn random_commands(random: &mut Random) -> Vec<Vec<u8>> {
 
 fn random_link_count(random: &mut Random) -> usize {
     match random.between(0, 99) {
-        0..=49 => 1 + random.index(6),
+        0..=3 => 0,
+        4..=49 => 1 + random.index(6),
         50..=84 => 6 + random.index(8),
         85..=91 => 17 + random.index(MOST_LINKS - 17),
         92..=94 => MOST_LINKS,

@@ -9,7 +9,7 @@ use crate::rules::{GAPS, MOST_LINKS};
 use crate::schedule_lines::MOST_ROOM;
 use crate::schedules::{read_schedule, Schedule};
 
-/// Most have as few links as a writer with 64 bytes of room can write. Some are of sites.
+/// Most have as few links as a writer with 64 bytes of room can write, a few none. Some are of sites.
 pub fn random_schedule(random: &mut Random) -> Schedule {
     if random.chance(20) {
         let (_, site) = site_to_alter(random);
@@ -20,7 +20,8 @@ pub fn random_schedule(random: &mut Random) -> Schedule {
         };
     }
     let links = match random.between(0, 99) {
-        0..=54 => 1 + random.index(6),
+        0..=5 => 0,
+        6..=54 => 1 + random.index(6),
         55..=84 => 6 + random.index(9),
         85..=94 => 15 + random.index(MOST_LINKS - 15),
         _ => MOST_LINKS,
@@ -240,6 +241,11 @@ mod tests {
         );
         assert!(schedules.iter().any(|schedule| schedule.links == 63));
         assert!(schedules.iter().any(|schedule| schedule.links == 1));
+        let without = schedules.iter().filter(|schedule| schedule.links == 0);
+        let without = without.count();
+        let behind = files.iter().filter(|file| file.first() == Some(&END));
+        let behind = behind.count() - without;
+        assert!(without >= 150 && behind >= 10, "{without} {behind}");
         let turns = schedules
             .iter()
             .flat_map(|schedule| schedule.offsets.iter().zip(&schedule.periods));

@@ -1,5 +1,6 @@
 //! Random sessions for rehearse, with what it has to print and with what the watch saw.
 
+use crate::bytes::END;
 use crate::damage::random_plan;
 use crate::outcomes::{Tally, SESSIONS};
 use crate::programs::{hex, printed, Answered};
@@ -85,6 +86,10 @@ const TRAFFIC: [Traffic; 3] = [Traffic::AtRate, Traffic::UpToRate, Traffic::Lone
 
 fn random_session(random: &mut Random) -> Session {
     let plan = plan_to_rehearse(random);
+    session_on(random, plan)
+}
+
+fn session_on(random: &mut Random, plan: Vec<u8>) -> Session {
     let (first, rehearsal) = begin(&plan);
     let mut session = Session {
         plan,
@@ -113,10 +118,13 @@ fn unanswered(line: &str) -> Answered {
     }
 }
 
-/// Mostly a plan with a flow whose bound is short enough to be met in a session; a few that are refused.
+/// Mostly a plan with a flow whose bound is short enough to be met in a session; a few that are refused, and a few of END alone.
 fn plan_to_rehearse(random: &mut Random) -> Vec<u8> {
     if random.chance(5) {
         return random_plan(random);
+    }
+    if random.chance(6) {
+        return vec![END];
     }
     loop {
         let (plan, site) = site_to_alter(random);
@@ -348,13 +356,14 @@ mod tests {
     use super::*;
     use crate::bytes::read_plan;
     use crate::former::read_formerly;
+    use crate::outcomes::SESSIONS_WITHOUT_LINKS;
     use crate::rehearse_lines::rehearse;
 
     #[test]
     fn random_sessions_meet_every_outcome_and_both_bounds() {
         let mut random = Random::from_seed(10);
         let mut sessions = Sessions::new();
-        for _ in 0..300 {
+        for _ in 0..600 {
             assert_eq!(sessions.add(&mut random).err(), None);
         }
         let (tally, record) = (sessions.tally, sessions.record);
@@ -380,6 +389,21 @@ mod tests {
             plans >= 50 && record.flows_at_bound >= 50,
             "{plans} {record}"
         );
+    }
+
+    #[test]
+    fn random_sessions_meet_every_outcome_without_links() {
+        let mut random = Random::from_seed(38);
+        let plans: Vec<_> = (0..1000).map(|_| plan_to_rehearse(&mut random)).collect();
+        let alone = plans.iter().filter(|&plan| *plan == [END]).count();
+        assert!(alone >= 40, "{alone}");
+        let mut tally = Tally::new("", SESSIONS_WITHOUT_LINKS);
+        for _ in 0..100 {
+            let session = session_on(&mut random, vec![END]);
+            assert_eq!(session.objection, None);
+            session.lines.iter().for_each(|line| tally.count(line));
+        }
+        assert!(tally.all_reach(3), "{tally}");
     }
 
     #[test]

@@ -27,7 +27,8 @@ pub fn altered_lines(random: &mut Random) -> String {
     lines
 }
 
-/// Most plans fit into the 64 bytes that test_altered can lend. A few are the plan of no bytes: its site is empty.
+/// Most plans fit into the 64 bytes that test_altered can lend. A few are no bytes, which are refused: the site is the one without
+/// links too.
 pub fn site_to_alter(random: &mut Random) -> (Vec<u8>, Site) {
     if random.chance(3) {
         return (Vec::new(), Site::empty());
@@ -159,7 +160,7 @@ fn any_entry(random: &mut Random, site: &Site) -> Triple {
 #[cfg(test)]
 mod tests {
     use super::*;
-    use crate::bytes::passes_check_14;
+    use crate::bytes::{passes_check_14, END};
     use crate::former::by_wanted_gaps;
     use crate::programs::alter;
     use crate::random_calls::{has_short_period, has_short_route};
@@ -191,5 +192,38 @@ mod tests {
         }
         assert!(wide >= 40 && late >= 40, "{wide} {late}");
         assert!(over >= 10 && short >= 10, "{over} {short}");
+    }
+
+    #[test]
+    fn some_sites_to_alter_have_no_links() {
+        let mut random = Random::from_seed(37);
+        let plans: Vec<_> = (0..2000).map(|_| site_to_alter(&mut random).0).collect();
+        let count = |bytes: &[u8]| plans.iter().filter(|&plan| plan == bytes).count();
+        let [alone, none] = [&[END][..], &[]].map(count);
+        assert!(alone >= 60 && none >= 30, "{alone} {none}");
+    }
+
+    /// The site without links as it is, and with one entry other than 0 in each of its fields.
+    #[test]
+    fn random_alterations_of_the_site_without_links_meet_every_field() {
+        let mut random = Random::from_seed(41);
+        let (mut same, mut altered_in) = (0, [0; 10]);
+        for _ in 0..4000 {
+            let mut altered = Site::empty();
+            let triples = random_alterations(&mut random, &altered);
+            alter(&mut altered, &triples.concat());
+            let is_same = altered == Site::empty();
+            assert_eq!(passes_check_14(&altered), is_same);
+            match triples[..] {
+                _ if is_same => same += 1,
+                [[field, _, _]] => altered_in[field as usize] += 1,
+                _ => (),
+            }
+        }
+        assert!(same >= 200, "{same}");
+        assert!(
+            altered_in.iter().all(|&count| count >= 10),
+            "{altered_in:?}"
+        );
     }
 }
