@@ -2,7 +2,7 @@
 
 mod schedules;
 
-use crate::bytes::{read_dealt, COMMAND_LENGTH, FLOW, NODE};
+use crate::bytes::{read_dealt, COMMAND_LENGTH, END, FLOW, NODE};
 use crate::calls::CELLS;
 use crate::host_calls::{Call, List};
 
@@ -103,7 +103,7 @@ impl Shrinking<'_> {
     }
 
     /// All commands of a plan at once, then each; a FLOW with its widths, a NODE with the numbers of nodes as they stand, or with
-    /// those above it one smaller.
+    /// those above it one smaller. Then bytes behind END, from the last on.
     fn drop_commands_of(&mut self, of: Option<usize>) {
         let length = plan_of(&mut self.list, of).map_or(0, |plan| plan.len());
         self.attempt_with(|list| plan_of(list, of).into_iter().for_each(Vec::clear));
@@ -119,6 +119,7 @@ impl Shrinking<'_> {
                 });
             }
         }
+        while self.attempt_with(|list| drop_byte_behind_end(list, of)) {}
     }
 
     /// All of a call, then those of each flow number, then each.
@@ -234,6 +235,16 @@ fn drop_command(list: &mut List, of: Option<usize>, at: usize) {
     }
 }
 
+fn drop_byte_behind_end(list: &mut List, of: Option<usize>) {
+    if let Some(plan) = plan_of(list, of) {
+        let mut commands = plan.chunks(COMMAND_LENGTH);
+        let end = commands.position(|command| command[0] == END);
+        if end.is_some_and(|end| plan.len() > end * COMMAND_LENGTH + 1) {
+            plan.pop();
+        }
+    }
+}
+
 fn drop_flow(list: &mut List, of: Option<usize>, at: usize) {
     if let Some(plan) = plan_of(list, of) {
         without_flow(plan, at);
@@ -313,7 +324,7 @@ fn without_node(plan: &mut Vec<u8>, at: usize) -> Option<Dropped> {
 #[cfg(test)]
 mod tests {
     use super::*;
-    use crate::bytes::{flow_command, node_command, END};
+    use crate::bytes::{flow_command, node_command};
     use crate::calls::COUNTERS;
     use crate::host_calls::Step;
     use crate::rules::FLOW_NUMBERS;
@@ -381,6 +392,21 @@ mod tests {
         };
         assert_eq!(small.steps[1], slot(arrivals, number));
         assert!(differs(&small));
+    }
+
+    #[test]
+    fn bytes_behind_the_end_of_a_plan_go_one_by_one() {
+        let goes_on = |list: &List| {
+            let end = list.plan.iter().position(|&byte| byte == END);
+            end.is_some_and(|end| list.plan.len() > end + 1)
+        };
+        for behind in [1, 5, 6, 7, 40] {
+            let list = List {
+                plan: [vec![END], vec![7; behind]].concat(),
+                steps: Vec::new(),
+            };
+            assert_eq!(shrink(list, &goes_on).plan, [END, 7]);
+        }
     }
 
     #[test]
