@@ -16,6 +16,8 @@
  * count elements, not bytes.  Everything else is tested: any bytes, numbers and lengths may be
  * handed in, and a call ends and answers.
  *
+ * A site may have no links: its plan is END alone, the one byte FF, and so is its schedule file.
+ *
  * Units: counters and arrivals are packets, capacities and rates packets a slot; gaps, periods,
  * offsets, deadlines and bounds are slots.  On each link of its route a flow has a width, its rate
  * times the link's period, in packets.
@@ -32,13 +34,12 @@
  *    6  a parent not below its node, a node that the site does not have, flow numbers not rising
  *    7  a 64th NODE
  *    8  a node deeper than 8
- *    9  END with no NODE before it, in a schedule file with no LINK; a schedule without links
  *   10  bytes after END
  *   11  crowded: no base fits the children of a parent
  *   12  the widths on a link sum to more than its capacity
  *   13  the periods on a flow's route sum to more than its deadline
  *   14  the plan bytes are refused; slotplan_mark tells by which check and where.  Or no file reads
- *       to the schedule that is handed in; for the one without links there is 9
+ *       to the schedule that is handed in
  *   15  the flow number is live already
  *   16  the flow number is not live
  *   17  the flow's width does not fit beside the live ones
@@ -82,7 +83,7 @@ typedef uint64_t slotplan_answer;
 #define SLOTPLAN_CELL(number) ((size_t)(number) * SLOTPLAN_CELLS)
 
 /* Marks a plan.  Value: how many links it has, and how many flows (the two macros above).
- * Checks: for each command 3, 2, 4, 7, 5, 6, 8; at END 9, 10; then 11, 12, 13.
+ * Checks: for each command 3, 2, 4, 7, 5, 6, 8; at END 10; then 11, 12, 13.
  * Places: offset of the command (of 10, of the first byte after END; of 2 without END, the number
  * of bytes); parent of 11; lowest link of 12; lowest flow number of 13. */
 slotplan_answer slotplan_mark(const uint8_t *plan, size_t plan_length);
@@ -98,7 +99,7 @@ slotplan_answer slotplan_schedule(const uint8_t *plan, size_t plan_length,
  * lists have SLOTPLAN_LINKS_MOST elements.  Value: the number of links.  Offset and period of link n
  * stand at index n - 1; the elements past the links become 0.  Links are not compared with each
  * other, so two of them may have a slot in common.
- * Checks: 1 for offsets or periods, place 0; for each command 3, 2, 21, 22; at END 9, 10.
+ * Checks: 1 for offsets or periods, place 0; for each command 3, 2, 21, 22; at END 10.
  * Places: offset of the command (of 10, of the first byte after END; of 2 without END, the number
  * of bytes). */
 slotplan_answer slotplan_read_schedule(const uint8_t *file, size_t file_length,
@@ -109,9 +110,9 @@ slotplan_answer slotplan_read_schedule(const uint8_t *file, size_t file_length,
  * slotplan_read_schedule fills them, into the front of out, in the form that slotplan_schedule
  * writes.  Value: the number of bytes written.  The rest of out keeps what it held.  A file that was
  * read is written again to equal bytes.
- * Checks: 1 for offsets or periods, 14, 9, place 0; 1 for out, place 0.  What 14 refuses: more than
- * 63 links; a link whose period is outside 1 to 1,024 or whose offset is not below it; an element
- * past the links that is not 0. */
+ * Checks: 1 for offsets or periods, 14, place 0; 1 for out, place 0.  What 14 refuses: more than 63
+ * links; a link whose period is outside 1 to 1,024 or whose offset is not below it; an element past
+ * the links that is not 0. */
 slotplan_answer slotplan_write_schedule(uint8_t links,
                                         const uint16_t *offsets, size_t offsets_length,
                                         const uint16_t *periods, size_t periods_length,
