@@ -12,6 +12,7 @@ pub const PROGRAMS: &[&str] = &[
     "test_figures",
     "test_bounds",
     "test_overlong",
+    "test_wired",
     "test_vectors",
     "test_altered",
     "test_deals",
@@ -37,7 +38,9 @@ pub struct Answered {
 /// The error is about an input outside the form that the program reads.
 pub fn output(program: &str, input: &[u8]) -> Result<String, String> {
     match program {
-        "slotplan" | "test_figures" | "test_bounds" | "test_overlong" => Ok(slotplan(input)),
+        "slotplan" | "test_figures" | "test_bounds" | "test_overlong" | "test_wired" => {
+            Ok(slotplan(input))
+        }
         "readschedule" => Ok(readschedule(input)),
         _ => Ok(printed(&answered_lines(program, input)?)),
     }
@@ -278,10 +281,19 @@ mod tests {
     }
 
     #[test]
+    fn slotplan_prints_a_plan_without_links_in_one_line() {
+        let expected = "accepted links 0 flows 0\n";
+        assert_eq!(slotplan(&[0xFF]), expected);
+        assert_eq!(output("test_wired", &[0xFF]).unwrap(), expected);
+        assert_eq!(slotplan(&[0xFF, 0x0A]), "refused 10 1\n");
+    }
+
+    #[test]
     fn vectors_prints_comments_refusals_and_schedules() {
-        let input = format!("# a remark\n\n{PLAN_P}\n");
+        let input = format!("# a remark\n\n{PLAN_P}\nFF\nFF FF\n");
         let expected = "# a remark\nrefused 2 0\naccepted links 3 plan 25 equal schedule 19 \
-            11 01 00 00 04 00 11 02 01 00 04 00 11 03 00 00 03 00 FF\n";
+            11 01 00 00 04 00 11 02 01 00 04 00 11 03 00 00 03 00 FF\n\
+            accepted links 0 plan 1 equal schedule 1 FF\nrefused 10 1\n";
         assert_eq!(output_of("test_vectors", &input), expected);
     }
 
@@ -301,9 +313,14 @@ mod tests {
     #[test]
     fn altered_prints_what_the_first_writer_left() {
         let plan = "01 00 14 00 04 00 FF";
-        let input = format!("1\nP {plan}\n8\n");
-        let expected = "passes, plan refused 9 0: 64, schedule refused 9 0: 64\n\
-            passes, plan 7: 01 00 14 00 04 00 FF 6B, schedule 7: 11 01 00 00 04 00 FF 6B\n";
+        let input = format!("2\nP {plan}\n8\nP FF\n1\n0\n9 0 0 1\n0 6 0 1\n");
+        let expected = "passes, plan 1: FF 65, schedule 1: FF 65\n\
+            passes, plan 7: 01 00 14 00 04 00 FF 6B, schedule 7: 11 01 00 00 04 00 FF 6B\n\
+            passes, plan 1: FF, schedule 1: FF\n\
+            passes, plan refused 1 0:, schedule refused 1 0:\n\
+            does not pass, plan refused 14 0: 64 65 66 67 68 69 6A 6B 6C, \
+            schedule refused 14 0: 64 65 66 67 68 69 6A 6B 6C\n\
+            does not pass, plan refused 14 0:, schedule refused 14 0:\n";
         assert_eq!(output_of("test_altered", &input), expected);
     }
 
@@ -329,6 +346,17 @@ mod tests {
             counters 45 0 46 0 47 0 48 0 49 0 50 0 51 0 52 0 53 0\n\
             sender 2\n";
         assert_eq!(output_of("test_calls", &input), expected);
+    }
+
+    #[test]
+    fn calls_are_answered_without_links() {
+        let input = "P FF\nC 5\nA 576 0 1 1 1\nA 576 0 1 0 1\nR 576 0\nL 0 3\nL 1 3\nS 576 64 3\n\
+            S 576 64 3 7 1\nX 3 0 1\nA 576 0 1 1 1\nL 0 3\nS 576 64 3\n";
+        let expected = "refused 6 0 site counters\nrefused 5 0 site counters\n\
+            refused 16 0 site counters\nsender 0\nrefused 6 0\naccepted counters\n\
+            refused 20 7 counters\nrefused 14 0 site counters\nrefused 14 0\n\
+            refused 14 0 counters\n";
+        assert_eq!(output_of("test_calls", input), expected);
     }
 
     #[test]
