@@ -1,5 +1,5 @@
-//! A second implementation of document 01 and of U1 and U2 of document 02, for comparison with the programs under crates/ and with
-//! their library.
+//! A second implementation of document 01 and of U1, U2 and U3 of document 02, for comparison with the programs under crates/ and
+//! with their library.
 
 mod bad_hosts;
 mod bench;
