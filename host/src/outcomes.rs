@@ -27,7 +27,7 @@ const fn call(
 
 const ACCEPTED: &[&str] = &["accepted"];
 
-/// Of END alone besides, the plan and the schedule file without links.
+/// END alone, the plan or schedule file without links, is counted once more.
 const ACCEPTED_WITHOUT_LINKS: &[&str] = &["accepted", "accepted links 0 "];
 
 pub const PLANS: &[Call] = &[call(

@@ -25,7 +25,7 @@ enum Habit {
     UnderTheRoot,
 }
 
-/// The commands of a random plan, without END. A few plans have none, since a flow needs a node.
+/// The commands of a random plan, without END. A few plans have no node, and so no flow either.
 pub fn random_commands(random: &mut Random) -> Vec<Vec<u8>> {
     let links = random_link_count(random);
     if links == 0 {

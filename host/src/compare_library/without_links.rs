@@ -13,7 +13,7 @@ fn tells(judged: Functions, call: &str, what: &str, input: &str) {
     assert_eq!(report, format!("call 1: {what}\ninput:\n{input}\n"));
 }
 
-/// 9 came before 10, and of a writer before 1.
+/// Up to U2 of 02 number 9 came before 10, and in a writer before 1 for the slice.
 #[test]
 fn end_alone_refused_by_9_is_found() {
     let mark = Functions {
