@@ -151,8 +151,10 @@ foreign p bytes out P when = (
 
 -- So the writers of a site give it just to a site that no plan bytes read to.
 pub site-foreign : (s : Site) (bytes out : List ℕ)
-    → (writtenIf s bytes out ≡ (refused 14 0, out)) ↔ ((plan : List ℕ) × Bytes plan × (readOf plan ≡ accepted s) → ⊥)
-site-foreign s bytes out = foreign (passesOf s) bytes out _ (passes-when s)
+    → (writtenIf s bytes out ≡ (refused 14 0, out)) ↔ ((plan : List ℕ) → Bytes plan → readOf plan ≡ accepted s → ⊥)
+site-foreign s bytes out =
+    let w = foreign (passesOf s) bytes out _ (passes-when s) in
+    (λ e plan small r. w .0 e (plan, small, r), λ n. w .1 (λ v. n (v .0) (v .1) (v .2)))
 
 -- 02, U2. A reading as it was before, by the wanted gaps, in the words of `accepted-when`.
 pub formerly-accepted-when : (bytes : List ℕ) → Bytes bytes → (t : Site)
@@ -211,8 +213,10 @@ schedule-passes-when s = (
 )
 
 pub schedule-foreign : (s : Schedule) (out : List ℕ)
-    → (scheduleWritten s out ≡ (refused 14 0, out)) ↔ ((bytes : List ℕ) × Bytes bytes × (scheduleRead bytes ≡ accepted s) → ⊥)
-schedule-foreign s out = foreign (schedulePasses s) (scheduleBytes s) out _ (schedule-passes-when s)
+    → (scheduleWritten s out ≡ (refused 14 0, out)) ↔ ((bytes : List ℕ) → Bytes bytes → scheduleRead bytes ≡ accepted s → ⊥)
+schedule-foreign s out =
+    let w = foreign (schedulePasses s) (scheduleBytes s) out _ (schedule-passes-when s) in
+    (λ e bytes small r. w .0 e (bytes, small, r), λ n. w .1 (λ v. n (v .0) (v .1) (v .2)))
 
 -- A file that the writer made, from a schedule or from a site, reads back to the schedule that made it; what stood behind it in the slice stands there still.
 pub schedule-made : (s : Schedule) (out new : List ℕ) (size : ℕ) → scheduleWritten s out ≡ (accepted size, new)
