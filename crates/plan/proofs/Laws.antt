@@ -19,10 +19,12 @@ use mathlib.Core.Bool.{Bool, true, false, false≢true}
 use mathlib.Core.List.{List, [], _∷_, _++_}
 use mathlib.Core.Logic.{⊎-elim, _↔_}
 use lib.ListN.{length, take, drop}
+use lib.Seq.{length-take-le}
 use borrow.Author.Tests.{le-ltb}
 use native.Mathlib.Omega.{arith}
 use Rattle.pinwheel.specs.Outcome.{Outcome, accepted, refused, orElse}
 use Rattle.pinwheel.specs.Search.{joined}
+use Rattle.pinwheel.proofs.Laws.Items.{joined-none}
 use Rattle.site.specs.declared.Site.{Site}
 use Rattle.site.specs.Sites.{emptySite, live}
 use Rattle.schedule.specs.Schedule.{scheduled}
@@ -31,7 +33,7 @@ use Rattle.site.specs.Words.{Carried, FullAt, Punctual, LateAt}
 use Rattle.schedule.specs.Words.{Wellgapped, Served, CrowdedAt}
 use Rattle.schedule.proofs.Laws.{judge-crowds, judge-fills, judge-delays}
 use Rattle.limits.specs.Check.{passesOf}
-use Rattle.limits.proofs.Laws.Forms.{formed-gapped}
+use Rattle.limits.proofs.Laws.Forms.{formed-gapped, linkless-idle}
 use Rattle.limits.proofs.Laws.Passing.{judged-when, passes-parts, judged-passes}
 use Rattle.limits.proofs.Laws.Empty.{empty-passes, linkless-empty}
 use Rattle.format.specs.Commands.{sizeOf}
@@ -42,11 +44,11 @@ use Rattle.schedule_file.specs.declared.Schedule.{Schedule}
 use Rattle.schedule_file.specs.Read.{withoutLinks, schedules, scheduleRead}
 use Rattle.schedule_file.specs.Check.{schedulePasses}
 use Rattle.schedule_file.proofs.Laws.{passes-listed}
-use Rattle.writer.specs.Write.{flowIfLive, commandBytes, planBytes, scheduleOf, scheduleBytes, written, handed, writtenIf, scheduleWritten}
+use Rattle.writer.specs.Write.{nodeBytes, linkBytes, flowIfLive, commandBytes, planBytes, scheduleOf, scheduleBytes, written, handed, writtenIf, scheduleWritten}
 use Rattle.writer.proofs.Laws.{written-accepted, written-refused}
-use Rattle.writer.proofs.Laws.Write.{plan-size, nodes-few, flows-few}
-use Rattle.plan.specs.Words.{InForm, FormFails, no-end, command, more}
-use Rattle.plan.specs.ScheduleWords.{ScheduleInForm, ScheduleFails}
+use Rattle.writer.proofs.Laws.Write.{plan-size, nodes-few, flows-few, idle-bytes}
+use Rattle.plan.specs.Words.{InForm, Begun, FormFails, no-end, command, more}
+use Rattle.plan.specs.ScheduleWords.{ScheduleInForm, ScheduleBegun, ScheduleFails}
 use Rattle.plan.specs.Former.{formerForm, formerRead, FormerlyCarried, FormerlyPunctual}
 use Rattle.plan.proofs.Laws.Small.{plan-small, schedule-small}
 use Rattle.plan.proofs.Laws.Acceptance.{read-form, read-plan, plan-scheduled, read-judged, read-refused}
@@ -267,6 +269,23 @@ site-unlinked s e z = let w = passes-parts s .0 e in linkless-empty s (w .0) (w 
 
 pub schedule-unlinked : (s : Schedule) → schedulePasses s ≡ true → s .links ≡ 0 → s ≡ withoutLinks
 schedule-unlinked s e z = listed-without s (passes-listed s .0 e) z
+
+-- With no link before it END is met only where it comes first: so U3 changed what becomes of files that begin with END, and of no others.
+nothing-before : (bytes : List ℕ) (at : ℕ) → at ≤ length bytes → take at bytes ≡ [] → at ≡ 0
+nothing-before bytes at l e = sym (length-take-le at bytes l) ∙ ap length e
+
+no-items : (item : ℕ → List ℕ) (n : ℕ) → n ≡ 0 → joined item n 0 ≡ []
+unfolding joined
+no-items item n z = rw z
+
+pub begun-unlinked : (bytes : List ℕ) (at : ℕ) (s : Site) → Begun bytes at s → s .links ≡ 0 → at ≡ 0
+unfolding commandBytes
+begun-unlinked bytes at s b z =
+    let idle : (n : ℕ) → flowIfLive s n ≡ [] = λ n. sym (idle-bytes s n (λ on. omega (arith, on, linkless-idle s (b .formed) z n .idle))) in
+    nothing-before bytes at (b .within) (b .are ∙ rw (no-items (nodeBytes s) (s .links) z, joined-none (flowIfLive s) 64 0 (λ n l. idle n)))
+
+pub schedule-begun-unlinked : (bytes : List ℕ) (at : ℕ) (s : Schedule) → ScheduleBegun bytes at s → s .links ≡ 0 → at ≡ 0
+schedule-begun-unlinked bytes at s b z = nothing-before bytes at (b .within) (b .are ∙ no-items (linkBytes s) (s .links) z)
 
 -- A byte after an END that comes first is refused by 10, in plans and in schedules.
 pub end-first : (byte : ℕ) (rest : List ℕ) → (readOf (255 ∷ byte ∷ rest) ≡ refused 10 1) × (scheduleRead (255 ∷ byte ∷ rest) ≡ refused 10 1)
