@@ -15,14 +15,12 @@ use Rattle.pinwheel.specs.Outcome.{Outcome, Ruling, accepted, refused}
 use Rattle.pinwheel.proofs.Laws.Outcomes.{refused-not}
 use Rattle.site.specs.declared.Site.{Site}
 use Rattle.site.specs.declared.Flow.{Flow}
-use Rattle.limits.specs.Check.{passesOf}
 use Rattle.format.specs.Words.{Bytes}
 use Rattle.reader.specs.Read.{readOf}
 use Rattle.writer.specs.Write.{planBytes, writtenIf, scheduleWritten}
-use Rattle.writer.proofs.Laws.{written-accepted}
 use Rattle.schedule_file.specs.declared.Schedule.{Schedule}
 use Rattle.schedule_file.specs.Read.{ofLists, scheduleRead}
-use Rattle.plan.proofs.Laws.{written-read, schedule-made, schedule-again}
+use Rattle.plan.proofs.Laws.{plan-made, schedule-made, schedule-again}
 use Rattle.plan.proofs.Laws.Schedules.{schedule-form}
 use Rattle.embed.proofs.Laws.Calls.{by-yes, of-length}
 use Rattle.admission.specs.Calls.{admitOf, releaseOf}
@@ -68,12 +66,6 @@ of-list {A = A} list n otherwise b a differs e = go (eqb (length list) n) refl e
     go true q e = (eqb-true _ _ q, e)
     go false q e = absurd (differs e)
 
--- Bytes that were written read to the site that they were written of, and what stood behind them stands there still.
-written-reads : (s : Site) (out new : List ℕ) (size : ℕ) → writtenIf s (planBytes s) out ≡ (accepted size, new)
-    → (readOf (take size new) ≡ accepted s) × (drop size new ≡ drop size out)
-written-reads s out new size e =
-    let w = written-accepted (passesOf s) (planBytes s) out new size e in (ap readOf (w .2) ∙ written-read s (w .0) .1, w .3)
-
 -- What a change comes to where its bytes were written.
 abbrev Changed : List ℕ → (Site → Ruling × Site × List ℕ) → List ℕ → ℕ → List ℕ → List ℕ → Type 0
 Changed bytes change out size ds new =
@@ -94,7 +86,7 @@ rewritten-reads (accepted a, next, cells) counters out size ds new e = go (writt
         let is : n ≡ size = cc in
         let cs : cells ≡ ds = ap (λ (r : Outcome ℕ × List ℕ × List ℕ). r .1) e in
         let bs : b ≡ new = ap (λ (r : Outcome ℕ × List ℕ × List ℕ). r .2) e in
-        let w = written-reads next out new size (rw (is, bs) at q) in
+        let w = plan-made next out new size (rw (is, bs) at q) in
         (next, rw cs, w .0, w .1)
     go (refused number place, b) q e = absurd (unlike (ap (λ (r : Outcome ℕ × List ℕ × List ℕ). r .0) e))
 rewritten-reads (refused number place, next, cells) counters out size ds new e =

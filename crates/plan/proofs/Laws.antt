@@ -24,7 +24,7 @@ use borrow.Author.Tests.{le-ltb}
 use native.Mathlib.Omega.{arith}
 use Rattle.pinwheel.specs.Outcome.{Outcome, accepted, refused, orElse}
 use Rattle.pinwheel.specs.Search.{joined}
-use Rattle.pinwheel.proofs.Laws.Items.{joined-none}
+use Rattle.pinwheel.proofs.Laws.Items.{joined-zero, joined-none}
 use Rattle.site.specs.declared.Site.{Site}
 use Rattle.site.specs.Sites.{emptySite, live}
 use Rattle.schedule.specs.Schedule.{scheduled}
@@ -124,6 +124,16 @@ pub plan-written : (s : Site) (out : List ℕ) → passesOf s ≡ true → lengt
 unfolding handed written
 plan-written s out e room = simp (e, le-ltb _ _ room)
 
+-- What an accepted writing left at the front of the slice reads as the bytes of what was handed in do, and the rest of the slice stands as it stood.
+made : (p : Bool) (bytes out new : List ℕ) (size : ℕ) (Reads : List ℕ → Type 0) → (p ≡ true → Reads bytes) → handed p bytes out ≡ (accepted size, new)
+    → Reads (take size new) × (drop size new ≡ drop size out)
+made p bytes out new size Reads reads e = let w = written-accepted p bytes out new size e in (rw (w .2) (reads (w .0)), w .3)
+
+-- So a plan that the operation wrote reads back to the site.
+pub plan-made : (s : Site) (out new : List ℕ) (size : ℕ) → writtenIf s (planBytes s) out ≡ (accepted size, new)
+    → (readOf (take size new) ≡ accepted s) × (drop size new ≡ drop size out)
+plan-made s out new size e = made (passesOf s) (planBytes s) out new size (λ plan. readOf plan ≡ accepted s) (λ t. written-read s t .1) e
+
 pub plan-short : (s : Site) → passesOf s ≡ true → length (planBytes s) ≤ 763
 plan-short s e =
     omega (arith, plan-size s (sizeOf 1) refl _ refl, nodes-few s (sizeOf 1) refl (passes-parts s .0 e .0 .few), flows-few s)
@@ -143,7 +153,7 @@ passes-when s = (
 foreign : (p : Bool) (bytes out : List ℕ) (P : Type 0) → ((p ≡ true) ↔ P) → (handed p bytes out ≡ (refused 14 0, out)) ↔ (P → ⊥)
 unfolding handed
 foreign p bytes out P when = (
-  λ e x. ⊎-elim (λ w. false≢true (sym (w .0) ∙ when .1 x)) (λ w. absurd (omega (arith, w .1))) (written-refused p bytes out out 14 0 e),
+  λ e x. ⊎-elim (λ w. false≢true (sym (w .0) ∙ when .1 x)) (λ w. absurd (omega (arith, w .2))) (written-refused p bytes out out 14 0 .0 e .2),
   λ n. go p refl n,
 )
   where
@@ -224,14 +234,12 @@ schedule-foreign s out =
 pub schedule-made : (s : Schedule) (out new : List ℕ) (size : ℕ) → scheduleWritten s out ≡ (accepted size, new)
     → (scheduleRead (take size new) ≡ accepted s) × (drop size new ≡ drop size out)
 schedule-made s out new size e =
-    let w = written-accepted (schedulePasses s) (scheduleBytes s) out new size e in
-    (ap scheduleRead (w .2) ∙ schedule-written-read s (w .0) .1, w .3)
+    made (schedulePasses s) (scheduleBytes s) out new size (λ file. scheduleRead file ≡ accepted s) (λ t. schedule-written-read s t .1) e
 
 pub site-schedule-made : (s : Site) (out new : List ℕ) (size : ℕ) → writtenIf s (scheduleBytes (scheduleOf s)) out ≡ (accepted size, new)
     → (scheduleRead (take size new) ≡ accepted (scheduleOf s)) × (drop size new ≡ drop size out)
 site-schedule-made s out new size e =
-    let w = written-accepted (passesOf s) (scheduleBytes (scheduleOf s)) out new size e in
-    (ap scheduleRead (w .2) ∙ site-schedule-read s (w .0) .1, w .3)
+    made (passesOf s) (scheduleBytes (scheduleOf s)) out new size (λ file. scheduleRead file ≡ accepted (scheduleOf s)) (λ t. site-schedule-read s t .1) e
 
 -- A file that is accepted is written again to equal bytes, wherever there is room for them.
 pub schedule-again : (bytes : List ℕ) (s : Schedule) → Bytes bytes → scheduleRead bytes ≡ accepted s → (out : List ℕ) → length bytes ≤ length out
@@ -274,18 +282,14 @@ schedule-unlinked s e z = listed-without s (passes-listed s .0 e) z
 nothing-before : (bytes : List ℕ) (at : ℕ) → at ≤ length bytes → take at bytes ≡ [] → at ≡ 0
 nothing-before bytes at l e = sym (length-take-le at bytes l) ∙ ap length e
 
-no-items : (item : ℕ → List ℕ) (n : ℕ) → n ≡ 0 → joined item n 0 ≡ []
-unfolding joined
-no-items item n z = rw z
-
 pub begun-unlinked : (bytes : List ℕ) (at : ℕ) (s : Site) → Begun bytes at s → s .links ≡ 0 → at ≡ 0
 unfolding commandBytes
 begun-unlinked bytes at s b z =
     let idle : (n : ℕ) → flowIfLive s n ≡ [] = λ n. sym (idle-bytes s n (λ on. omega (arith, on, linkless-idle s (b .formed) z n .idle))) in
-    nothing-before bytes at (b .within) (b .are ∙ rw (no-items (nodeBytes s) (s .links) z, joined-none (flowIfLive s) 64 0 (λ n l. idle n)))
+    nothing-before bytes at (b .within) (b .are ∙ rw (joined-zero (nodeBytes s) (s .links) 0 z, joined-none (flowIfLive s) 64 0 (λ n l. idle n)))
 
 pub schedule-begun-unlinked : (bytes : List ℕ) (at : ℕ) (s : Schedule) → ScheduleBegun bytes at s → s .links ≡ 0 → at ≡ 0
-schedule-begun-unlinked bytes at s b z = nothing-before bytes at (b .within) (b .are ∙ no-items (linkBytes s) (s .links) z)
+schedule-begun-unlinked bytes at s b z = nothing-before bytes at (b .within) (b .are ∙ joined-zero (linkBytes s) (s .links) 0 z)
 
 -- A byte after an END that comes first is refused by 10, in plans and in schedules.
 pub end-first : (byte : ℕ) (rest : List ℕ) → (readOf (255 ∷ byte ∷ rest) ≡ refused 10 1) × (scheduleRead (255 ∷ byte ∷ rest) ≡ refused 10 1)
@@ -314,4 +318,4 @@ schedule-without-9 bytes small place e = go (schedule-refused bytes small 9 plac
     go (more s at b t p l n) = omega arith
 
 pub writer-without-9 : (p : Bool) (bytes out new : List ℕ) (place : ℕ) → handed p bytes out ≡ (refused 9 place, new) → ⊥
-writer-without-9 p bytes out new place e = ⊎-elim (λ w. omega (arith, w .1)) (λ w. omega (arith, w .1)) (written-refused p bytes out new 9 place e)
+writer-without-9 p bytes out new place e = ⊎-elim (λ w. omega (arith, w .1)) (λ w. omega (arith, w .2)) (written-refused p bytes out new 9 place .0 e .2)

@@ -1,14 +1,15 @@
--- What is proved of the writers by themselves: a LINK tells its node, offset and period, check 14 changes nothing for a site that passes it, and what an
--- accepted writing leaves. The modules named here hold the lemmas; crate `plan` has what the bytes mean.
+-- What is proved of the writers by themselves: a LINK tells its node, offset and period, check 14 changes nothing for a site that passes it, what an
+-- accepted writing leaves, and when one is refused. The modules named here hold the lemmas; crate `plan` has what the bytes mean.
 pub mod Write
 use Prim.Native.Nat.{ℕ, _+_, _<_}
 use mathlib.Core.Path.{_≡_, refl, sym, _∙_, ap}
 use mathlib.Core.Bool.{Bool, true, false, cond}
 use mathlib.Core.List.{List, _++_}
-use mathlib.Core.Logic.{_⊎_, inl, inr}
+use mathlib.Core.Logic.{_⊎_, inl, inr, _↔_}
 use lib.Dec.{ltb}
 use lib.ListN.{length, getD, take, drop}
 use lib.Seq.{take-at, drop-at}
+use borrow.Author.Tests.{lt-ltb, ltb-true}
 use native.Mathlib.Omega.{arith}
 use Rattle.pinwheel.specs.Outcome.{Outcome, accepted, refused}
 use Rattle.pinwheel.proofs.Laws.Outcomes.{refused-not}
@@ -60,18 +61,31 @@ written-accepted p bytes out new size e = go p refl (ltb (length out) (length by
     go true q true e = absurd (refused-not _ refl (ap (λ (r : Outcome ℕ × List ℕ). r .0) e))
     go false q b e = absurd (refused-not _ refl (ap (λ (r : Outcome ℕ × List ℕ). r .0) e))
 
--- The numbers that a writer refuses with: 14 just where the check does not let pass, and else 1.
-pub written-refused : (p : Bool) (bytes out new : List ℕ) (number place : ℕ) → handed p bytes out ≡ (refused number place, new)
-    → ((p ≡ false) × (number ≡ 14)) ⊎ ((p ≡ true) × (number ≡ 1))
+-- What a refused writing tells: 14 where the check does not let pass what is handed in, 1 where it does and the slice is too short; the place is 0, and the slice stays.
+abbrev Unwritten : Bool → List ℕ → List ℕ → List ℕ → ℕ → ℕ → Type 0
+Unwritten p bytes out new number place =
+    (place ≡ 0) × (new ≡ out) × (((p ≡ false) × (number ≡ 14)) ⊎ ((p ≡ true) × (length out < length bytes) × (number ≡ 1)))
+
+-- A writing is refused just so.
+pub written-refused : (p : Bool) (bytes out new : List ℕ) (number place : ℕ)
+    → (handed p bytes out ≡ (refused number place, new)) ↔ Unwritten p bytes out new number place
 unfolding handed written
-written-refused p bytes out new number place e = go p refl (ltb (length out) (length bytes)) e
+written-refused p bytes out new number place = (λ e. go p refl (ltb (length out) (length bytes)) refl e, back)
   where
-    go : (a : Bool) → p ≡ a → (b : Bool) → cond a (room bytes out b) (refused 14 0, out) ≡ (refused number place, new)
-        → ((p ≡ false) × (number ≡ 14)) ⊎ ((p ≡ true) × (number ≡ 1))
-    go true q false e = absurd (refused-not _ (ap (λ (r : Outcome ℕ × List ℕ). r .0) e) refl)
-    go true q true e =
+    go : (a : Bool) → p ≡ a → (b : Bool) → ltb (length out) (length bytes) ≡ b → cond a (room bytes out b) (refused 14 0, out) ≡ (refused number place, new)
+        → Unwritten p bytes out new number place
+    go true q false s e = absurd (refused-not _ (ap (λ (r : Outcome ℕ × List ℕ). r .0) e) refl)
+    go true q true s e =
         let o : _≡_ {A = Outcome ℕ} (refused 1 0) (refused number place) = ap (λ (r : Outcome ℕ × List ℕ). r .0) e in
-        let n : number ≡ 1 = cc in inr (q, n)
-    go false q b e =
+        let n : number ≡ 1 = cc in
+        let l : place ≡ 0 = cc in
+        (l, sym (ap (λ (r : Outcome ℕ × List ℕ). r .1) e), inr (q, ltb-true _ _ s, n))
+    go false q b s e =
         let o : _≡_ {A = Outcome ℕ} (refused 14 0) (refused number place) = ap (λ (r : Outcome ℕ × List ℕ). r .0) e in
-        let n : number ≡ 14 = cc in inl (q, n)
+        let n : number ≡ 14 = cc in
+        let l : place ≡ 0 = cc in
+        (l, sym (ap (λ (r : Outcome ℕ × List ℕ). r .1) e), inl (q, n))
+
+    back : Unwritten p bytes out new number place → cond p (room bytes out (ltb (length out) (length bytes))) (refused 14 0, out) ≡ (refused number place, new)
+    back (l, is, inl (q, n)) = rw (l, is, q, n)
+    back (l, is, inr (q, short, n)) = rw (l, is, q, n, lt-ltb _ _ short)

@@ -2,7 +2,7 @@
 use Prim.Native.Nat.{ℕ, _+_}
 use mathlib.Core.Bool.{Bool, cond}
 use mathlib.Core.List.{List, [], _∷_, _++_}
-use lib.Dec.{ltb}
+use lib.Dec.{ltb, leb}
 use lib.ListN.{length, getD, drop}
 use Rattle.pinwheel.specs.Outcome.{Outcome, accepted, refused}
 use Rattle.pinwheel.specs.Search.{joined}
@@ -64,11 +64,6 @@ scheduleBytes s = joined (linkBytes s) (s .links) 0 ++ (255 ∷ [])
 unfoldable pub written : List ℕ → List ℕ → Outcome ℕ × List ℕ
 written bytes out = cond (ltb (length out) (length bytes)) (refused 1 0, out) (accepted (length bytes), bytes ++ drop (length bytes) out)
 
--- The writing where 14 is not asked, of so many links: more than there can be are refused, since there are no entries for them. On every site
--- that passes the check it is the writing with it: the law `plain-writing`.
-unfoldable pub encoded : ℕ → List ℕ → List ℕ → Outcome ℕ × List ℕ
-encoded links bytes out = cond (ltb 63 links) (refused 14 0, out) (written bytes out)
-
 -- 01, the checks of what is handed to a writer: 14, by whether it passes, and then the writing itself.
 unfoldable pub handed : Bool → List ℕ → List ℕ → Outcome ℕ × List ℕ
 handed passes bytes out = cond passes (written bytes out) (refused 14 0, out)
@@ -79,3 +74,8 @@ writtenIf s bytes out = handed (passesOf s) bytes out
 
 abbrev pub scheduleWritten : Schedule → List ℕ → Outcome ℕ × List ℕ
 scheduleWritten s out = handed (schedulePasses s) (scheduleBytes s) out
+
+-- The same where check 14 was asked before: only more links than there can be are refused, since there are no entries for them. On every site that passes
+-- the check it is the writing with it: the law `plain-writing`.
+unfoldable pub encoded : ℕ → List ℕ → List ℕ → Outcome ℕ × List ℕ
+encoded links bytes out = handed (leb links 63) bytes out

@@ -3,9 +3,9 @@ use Prim.Native.Nat.{ℕ, zero, suc, _+_, _*_, _/_, _%_, _^_, _≤_, _<_}
 use mathlib.Core.Path.{_≡_, refl, sym, ap}
 use mathlib.Core.Bool.{Bool, true, false, not, cond}
 use mathlib.Core.List.{List, [], _∷_, _++_}
-use lib.Dec.{eqb, ltb}
+use lib.Dec.{eqb, ltb, leb}
 use lib.ListN.{length, getD, drop}
-use borrow.Author.Tests.{eq-eqb, ne-eqb, ltb-true, ltb-false}
+use borrow.Author.Tests.{eq-eqb, ne-eqb, ltb-true, ltb-false, leb-true}
 use native.Mathlib.Omega.{arith}
 use Rattle.pinwheel.specs.Outcome.{Outcome, Ruling, accepted, refused}
 use Rattle.pinwheel.specs.Rule.{base, periodsOf, offsetsOf}
@@ -147,14 +147,6 @@ module _ (bytes out : List ℕ) where
       go true = refusal-fitting 1 0 out (omega arith) (omega arith)
       go false = (tellable _ (near-accepted 763 (length bytes)), record { low = λ v f. let z : length bytes ≡ v = cc in omega arith })
 
-  pub fitting : (links : ℕ) → (links ≤ 63 → length bytes ≤ 763) → (o : Outcome ℕ) (ds : List ℕ) → (o, ds) ≡ encoded links bytes out → Tellable o × Short o
-  unfolding encoded
-  fitting links few o ds e = rw (ap (λ (q : Outcome ℕ × List ℕ). q .0) e) (go (ltb 63 links) refl)
-    where
-      go : (a : Bool) → ltb 63 links ≡ a → Fitting (cond a (refused 14 0, out) (written bytes out))
-      go true e = refusal-fitting 14 0 out (omega arith) (omega arith)
-      go false e = written-fitting (few (ltb-false _ _ e))
-
   pub handed-fitting : (p : Bool) → (p ≡ true → length bytes ≤ 763) → (o : Outcome ℕ) (ds : List ℕ) → (o, ds) ≡ handed p bytes out → Tellable o × Short o
   unfolding handed
   handed-fitting p few o ds e = rw (ap (λ (q : Outcome ℕ × List ℕ). q .0) e) (go p few)
@@ -162,6 +154,10 @@ module _ (bytes out : List ℕ) where
       go : (a : Bool) → (a ≡ true → length bytes ≤ 763) → Fitting (cond a (written bytes out) (refused 14 0, out))
       go true few = written-fitting (few refl)
       go false few = refusal-fitting 14 0 out (omega arith) (omega arith)
+
+  pub fitting : (links : ℕ) → (links ≤ 63 → length bytes ≤ 763) → (o : Outcome ℕ) (ds : List ℕ) → (o, ds) ≡ encoded links bytes out → Tellable o × Short o
+  unfolding encoded
+  fitting links few o ds e = handed-fitting (leb links 63) (λ t. few (leb-true _ _ t)) o ds e
 
 pub plan-few : (s : Site) → s .links ≤ 63 → length (planBytes s) ≤ 763
 plan-few s l = omega (arith, plan-size s (sizeOf 1) refl _ refl, nodes-few s (sizeOf 1) refl l, flows-few s)

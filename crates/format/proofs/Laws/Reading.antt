@@ -1,7 +1,7 @@
 -- The reading of commands, whatever they are: one law for each thing that can be met at an index, how far a reading comes, and that bytes which agree up to there
 -- are read alike.
 use Prim.Native.Nat.{ℕ, zero, suc, _+_, _<_, _≤_}
-use mathlib.Core.Path.{_≡_, refl, _∙_, ap}
+use mathlib.Core.Path.{_≡_, refl, sym, _∙_, ap}
 use mathlib.Core.Bool.{cond}
 use mathlib.Core.List.{List}
 use mathlib.Core.Logic.{_⊎_, inl, inr}
@@ -126,8 +126,7 @@ module _ {B : Type 0} (size at : ℕ) (b : B) where
 
 -- Where a byte stands after END, how many there are does not matter.
 pub ended-alike : {B : Type 0} (m n at : ℕ) → at + 1 < m → at + 1 < n → (b : B) → ended m at b ≡ ended n at b
-unfolding ended
-ended-alike m n at l k b = rw (lt-ltb _ _ l, lt-ltb _ _ k)
+ended-alike m n at l k b = ended-more m at b l ∙ sym (ended-more n at b k)
 
 -- Bytes that agree in the first 1,024 places.
 pub record Agreeing (xs ys : List ℕ) : Type 0 where

@@ -5,7 +5,7 @@ use mathlib.Core.Bool.{Bool, true, false, not, cond}
 use mathlib.Core.List.{List, [], _∷_, _++_}
 use lib.ListN.{length, getD, set, drop, length-append, drop-of-length-le}
 use lib.Seq.{sets, length-sets, sets-eq, drop-cons}
-use borrow.Author.Tests.{lt-ltb, le-ltb, ne-eqb, not-true, not-false}
+use borrow.Author.Tests.{lt-ltb, le-ltb, lt-leb, le-leb, ne-eqb, not-true, not-false}
 use native.Mathlib.Nat.{zero-add, mul-suc}
 use native.Mathlib.Numerals.{add-one}
 use native.Mathlib.Omega.{arith}
@@ -17,7 +17,7 @@ use Rattle.format.specs.Commands.{sizeOf, scheduleSize}
 use Rattle.schedule_file.specs.declared.Schedule.{Schedule}
 use Rattle.writer.specs.Write.{nodeCommand, nodeBytes, flowCommand, flowBytes, linkCommand, linkBytes, flowIfLive, commandBytes, planBytes, scheduleBytes, written, encoded, handed}
 use Rattle.pinwheel.specs.Search.{joined}
-use Rattle.pinwheel.proofs.Laws.Items.{joined-next}
+use Rattle.pinwheel.proofs.Laws.Items.{joined-next, joined-zero}
 
 sets-append : (d : List ℕ) (at : ℕ) (xs ys : List ℕ) → sets d at (xs ++ ys) ≡ sets (sets d at xs) (at + length xs) ys
 sets-append d at [] ys = let e : at + 0 ≡ at = omega arith in rw e
@@ -32,8 +32,7 @@ pub record Passed (bytes : ℕ → List ℕ) (n start i at : ℕ) : Type 0 where
 
 -- No item is left.
 none : (bytes : ℕ → List ℕ) (n i : ℕ) → n ≤ i → joined bytes (n - i) i ≡ []
-unfolding joined
-none bytes n i l = let e : n - i ≡ 0 = omega arith in rw e
+none bytes n i l = joined-zero bytes (n - i) i (omega arith)
 
 module _ (bytes : ℕ → List ℕ) (n start : ℕ) where
   pub passed-start : Passed bytes n start 0 start
@@ -226,15 +225,15 @@ module _ (s : Schedule) where
   unfolding scheduleBytes
   schedule-stored out a end p e = rw (sets-append out 0 (joined (linkBytes s) (s .links) 0) (255 ∷ []), zero-add, ← p, ← e)
 
--- The answers without check 14.
+-- The answers where check 14 was asked before.
 module _ (links : ℕ) (bytes out : List ℕ) where
   pub encoded-many : 63 < links → (refused 14 0, out) ≡ encoded links bytes out
-  unfolding encoded
-  encoded-many l = rw (lt-ltb _ _ l)
+  unfolding encoded handed
+  encoded-many l = rw (lt-leb _ _ l)
 
   pub encoded-few : links ≤ 63 → (a : Outcome ℕ × List ℕ) → a ≡ written bytes out → a ≡ encoded links bytes out
-  unfolding encoded
-  encoded-few l a q = q ∙ rw (le-ltb _ _ l)
+  unfolding encoded handed
+  encoded-few l a q = q ∙ rw (le-leb _ _ l)
 
 -- The answers with it. p is the check, and t what it came to.
 module _ (p t : Bool) (is : t ≡ p) (bytes out : List ℕ) where
@@ -245,5 +244,5 @@ module _ (p t : Bool) (is : t ≡ p) (bytes out : List ℕ) where
   -- Nothing with more than 63 links passes.
   pub handed-well : (links : ℕ) → (p ≡ true → links ≤ 63) → not t ≡ false → (a : Outcome ℕ × List ℕ) → a ≡ encoded links bytes out
       → a ≡ handed p bytes out
-  unfolding handed encoded
-  handed-well links few e a q = let pass : p ≡ true = sym is ∙ not-false t e in q ∙ rw (le-ltb _ _ (few pass), pass)
+  unfolding encoded handed
+  handed-well links few e a q = let pass : p ≡ true = sym is ∙ not-false t e in q ∙ rw (le-leb _ _ (few pass), pass)
