@@ -1,75 +1,84 @@
-// What is printed of a site and its counters while calls are made on them.
+// What is shown of a site and its counters while calls are made on them.
 use simulation::Lookup;
 use site::Site;
 use writer::Written;
+ghost use mathlib.Core.Path.{_≡_};
+ghost use Rattle.text.specs.Put.{puts};
+ghost use Rattle.simulation.specs.Sender.{found};
+ghost use Rattle.writer.specs.Write.{writing};
+ghost use Rattle.call_answers.specs.Answers.{lookupText, cellsText, boundText, planText, scheduleText};
+ghost use Rattle.call_answers.specs.Inner.{frontText, writtenText};
 
 // The child that sends, or the refusal.
-pub fn print_lookup(lookup: Lookup) {
+pub fn put_lookup(out: &mut [u8], at: usize, lookup: Lookup) -> usize
+    ensures { λ r. ⌜ (r, now (out .exit)) ≡ puts (at, now (out .entry)) (lookupText (found lookup)) ⌝ }
+{
     match lookup {
-        Lookup::Child(child) => report::print_field(b"sender ", child as u64),
-        Lookup::Refused(number, place) => report::print_refusal(b"refused ", number, place),
+        Lookup::Child(child) => text::put_field(out, at, b"sender ", child as u64),
+        Lookup::Refused(number, place) => report::put_refusal(out, at, number, place),
     }
 }
 
-// Each number with a space before it.
-fn print_numbers(numbers: &[u32]) {
-    let mut i = 0;
-    while i < numbers.len() {
-        print_number(numbers[i]);
-        i += 1;
-    }
-}
-
-fn print_number(number: u32) {
-    report::print_field(b" ", number as u64);
-}
-
-// The nine cells of a flow number: its queues from the entry link upward, then the delivered count.
-pub fn print_cells(counters: &[u32], number: u8) {
+// The nine cells of a flow number.
+pub fn put_cells(out: &mut [u8], at: usize, counters: &[u32], number: u8) -> usize
+    ensures { λ r. ⌜ (r, now (out .exit)) ≡ puts (at, now (out .entry)) (cellsText (now (counters .entry)) number) ⌝ }
+{
     let start = 9 * number as usize;
     let end = start + 9;
-    io::write_all(1, b"cells");
-    if end <= counters.len() {
-        print_numbers(&counters[start..end]);
+    let named = text::put(out, at, b"cells");
+    if counters.len() < end {
+        return named;
     }
+    text::put_numbers(out, named, &counters[start..end])
 }
 
 // The bound and the deadline of a live flow.
-pub fn print_bound(site: Site, number: u8) {
-    let n = number as usize;
-    if site::is_live(site, number) {
-        if n < 64 {
-            let deadline = site.deadlines[n];
-            report::print_field(b"bound ", site::delay_bound(site, number) as u64);
-            report::print_field(b" deadline ", deadline as u64);
-        }
-        return;
+pub fn put_bound(out: &mut [u8], at: usize, site: Site, number: u8) -> usize
+    ensures { λ r. ⌜ (r, now (out .exit)) ≡ puts (at, now (out .entry)) (boundText site number) ⌝ }
+{
+    if !site::is_live(site, number) {
+        return text::put(out, at, b"not live");
     }
-    io::write_all(1, b"not live");
+    let bound = site::delay_bound(site, number);
+    let deadline = site.deadlines[number as usize];
+    let bounded = text::put_field(out, at, b"bound ", bound as u64);
+    text::put_field(out, bounded, b" deadline ", deadline as u64)
 }
 
-// The bytes that a writer put at the start of the slice, or its refusal.
-fn print_written(written: Written, out: &[u8]) {
+// The first n bytes of a slice that has so many.
+fn put_front(out: &mut [u8], at: usize, bytes: &[u8], n: usize) -> usize
+    ensures { λ r. ⌜ (r, now (out .exit)) ≡ puts (at, now (out .entry)) (frontText n (now (bytes .entry))) ⌝ }
+{
+    if bytes.len() < n {
+        return at;
+    }
+    text::put_bytes(out, at, &bytes[0..n])
+}
+
+// The bytes that a writer put at the front of a slice, or its refusal.
+fn put_written(out: &mut [u8], at: usize, written: Written, bytes: &[u8]) -> usize
+    ensures { λ r. ⌜ (r, now (out .exit)) ≡ puts (at, now (out .entry)) (writtenText (writing written) (now (bytes .entry))) ⌝ }
+{
     match written {
-        Written::Length(n) => {
-            if n <= out.len() {
-                report::print_bytes(&out[0..n]);
-            }
-        }
-        Written::Refused(number, place) => report::print_refusal(b"refused ", number, place),
+        Written::Length(n) => put_front(out, at, bytes, n),
+        Written::Refused(number, place) => report::put_refusal(out, at, number, place),
     }
 }
 
 // The plan bytes of the site: 63 NODEs, 64 FLOWs and END take 763.
-pub fn print_plan(site: Site) {
-    let mut out = [0u8; 763];
-    let written = writer::write_plan(site, &mut out);
-    print_written(written, &out);
+pub fn put_plan(out: &mut [u8], at: usize, site: Site) -> usize
+    ensures { λ r. ⌜ (r, now (out .exit)) ≡ puts (at, now (out .entry)) (planText site) ⌝ }
+{
+    let mut bytes = [0u8; 763];
+    let written = writer::write_plan(site, &mut bytes);
+    put_written(out, at, written, &bytes)
 }
 
 // The schedule bytes of the site: 63 LINKs and END take 379.
-pub fn print_schedule(site: Site) {
-    let mut out = [0u8; 379];
-    let written = writer::write_schedule(site, &mut out);
-    print_written(written, &out);
+pub fn put_schedule(out: &mut [u8], at: usize, site: Site) -> usize
+    ensures { λ r. ⌜ (r, now (out .exit)) ≡ puts (at, now (out .entry)) (scheduleText site) ⌝ }
+{
+    let mut bytes = [0u8; 379];
+    let written = writer::write_schedule(site, &mut bytes);
+    put_written(out, at, written, &bytes)
 }

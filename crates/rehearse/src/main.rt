@@ -6,6 +6,7 @@ use call_text::Question;
 use schedule::Judged;
 use schedule::Verdict;
 use site::Site;
+use writer::Written;
 
 // The site as it is now, and how many bytes are kept of the line that is being read: one more than its space has where it is too long.
 struct Rehearsal {
@@ -13,13 +14,22 @@ struct Rehearsal {
     kept: usize,
 }
 
+// Prints the first n bytes, if there are so many, and the end of the line.
+fn print_line(line: &[u8], n: usize) {
+    if n <= line.len() {
+        io::write_all(1, &line[0..n]);
+    }
+    io::write_all(1, b"\n");
+}
+
 fn print_error() {
     io::write_all(1, b"error\n");
 }
 
 fn print_verdict(verdict: Verdict) {
-    report::print_verdict(verdict);
-    io::write_all(1, b"\n");
+    let mut line = [0u8; 64];
+    let n = report::put_verdict(&mut line, 0, verdict);
+    print_line(&line, n);
 }
 
 // Prints the verdict of an admission or a release; answers the site that it left.
@@ -40,27 +50,62 @@ fn called(call: Call, arrivals: &[u16], site: Site, counters: &mut [u32]) -> Sit
     site
 }
 
-fn print_answer(question: Question, site: Site, counters: &[u32]) {
-    match question {
-        Question::Sender(parent, slot) => {
-            call_answers::print_lookup(simulation::sender(site, parent, slot))
+fn print_written(written: Written, text: &[u8]) {
+    match written {
+        Written::Length(n) => {
+            if n <= text.len() {
+                io::write_all(1, &text[0..n]);
+            }
         }
-        Question::Cells(number) => call_answers::print_cells(counters, number),
-        Question::Bound(number) => call_answers::print_bound(site, number),
-        Question::Plan => call_answers::print_plan(site),
-        Question::Schedule => call_answers::print_schedule(site),
+        Written::Refused(_, _) => {}
+    }
+}
+
+fn print_report(bytes: &[u8]) {
+    let mut text = [0u8; 8192];
+    let written = report::report(bytes, &mut text);
+    print_written(written, &text);
+}
+
+// What `slotplan` prints of the site's plan, which takes at most 763 bytes.
+fn show(site: Site) {
+    let mut bytes = [0u8; 763];
+    let written = writer::write_plan(site, &mut bytes);
+    match written {
+        Written::Length(n) => {
+            if n <= 763 {
+                print_report(&bytes[0..n]);
+            }
+        }
+        Written::Refused(_, _) => {}
+    }
+}
+
+// The bytes of the longest plan take 2,288 bytes in hexadecimal.
+fn print_answer(question: Question, site: Site, counters: &[u32]) {
+    let mut line = [0u8; 4096];
+    let n = match question {
+        Question::Sender(parent, slot) => {
+            let lookup = simulation::sender(site, parent, slot);
+            call_answers::put_lookup(&mut line, 0, lookup)
+        }
+        Question::Cells(number) => call_answers::put_cells(&mut line, 0, counters, number),
+        Question::Bound(number) => call_answers::put_bound(&mut line, 0, site, number),
+        Question::Plan => call_answers::put_plan(&mut line, 0, site),
+        Question::Schedule => call_answers::put_schedule(&mut line, 0, site),
         Question::Show => {
-            report::print_site(site);
+            show(site);
             return;
         }
-    }
-    io::write_all(1, b"\n");
+    };
+    print_line(&line, n);
 }
 
 // Prints the answer to a line; answers the site from here on.
 fn answer(line: &[u8], site: Site, counters: &mut [u32]) -> Site {
-    let mut arrivals = [0u16; 64];
-    let read = call_text::read_line(line, &mut arrivals);
+    let asked = call_text::read_line(line);
+    let arrivals = asked.arrivals;
+    let read = asked.line;
     match read {
         Line::PassedOver => {}
         Line::Makes(call) => return called(call, &arrivals, site, counters),
@@ -140,24 +185,38 @@ fn rehearse_plan(bytes: &[u8]) {
     let verdict = read.verdict;
     match verdict {
         Verdict::Accepted => {
-            report::print_counts(read.site);
+            print_counts(read.site);
             rehearse_site(read.site);
         }
         Verdict::Refused(_, _) => print_verdict(verdict),
     }
 }
 
+fn print_counts(site: Site) {
+    let mut line = [0u8; 64];
+    let n = report::put_counts(&mut line, 0, site);
+    if n <= 64 {
+        io::write_all(1, &line[0..n]);
+    }
+}
+
+fn tell_unopened(path: &[u8]) {
+    io::write_all(2, b"rehearse: cannot open ");
+    io::write_all(2, path);
+    io::write_all(2, b"\n");
+}
+
 // No plan is longer than 763 bytes, so the first 1,024 of the file settle every answer: the law `read-first` of crate `reader`.
 fn main() {
     if os::arg_count() != 2 {
-        print_error();
+        io::write_all(2, b"usage: rehearse PLAN\n");
         return;
     }
     let mut path = io::buffer();
     let length = os::arg(1, &mut path);
     let file = os::open_read(&path[..length]);
     if file < 0 {
-        print_error();
+        tell_unopened(&path[..length]);
         return;
     }
     let mut bytes = [0u8; 1024];

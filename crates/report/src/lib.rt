@@ -1,129 +1,124 @@
-// What the programs print: fields, verdicts, bytes in hexadecimal, and a site as `slotplan` shows it.
-mod hex;
+// What is printed of plan bytes and of schedule bytes: the lines of `slotplan`, `readschedule` and `listing`, each put into a borrowed slice.
+mod schedule_lines;
+mod site_lines;
+mod typed_lines;
 
-pub use hex::print_bytes;
-pub use hex::print_hex;
 use schedule::Verdict;
+use schedule_lines::put_schedule;
 use site::Site;
-ghost use Prim.Native.Nat.{_<_};
+pub use site_lines::put_counts;
+use site_lines::put_flows;
+use site_lines::put_links;
+use typed_lines::put_plan;
+use writer::Written;
+ghost use mathlib.Core.Path.{_≡_};
+ghost use mathlib.Core.List.{_++_};
+ghost use Prim.Native.Nat.{_≤_};
+ghost use lib.ListN.{length, take};
+ghost use Rattle.text.specs.Put.{puts};
+ghost use Rattle.schedule.specs.Judge.{ruling};
+ghost use Rattle.report.specs.Report.{refusal, refusalLine, verdictText, siteLines, reportOf, scheduleReportOf};
+ghost use Rattle.report.specs.Listing.{listingOf};
+ghost use Rattle.writer.specs.Write.{writing, written};
 
-pub fn print_field(name: &[u8], value: u64) {
-    io::write_all(1, name);
-    io::print_decimal(1, value);
+// The number and the place of a refusal.
+pub fn put_refusal(out: &mut [u8], at: usize, number: u8, place: usize) -> usize
+    ensures { λ r. ⌜ (r, now (out .exit)) ≡ puts (at, now (out .entry)) (refusal number place) ⌝ }
+{
+    let named = text::put_field(out, at, b"refused ", number as u64);
+    text::put_field(out, named, b" ", place as u64)
 }
 
-pub fn print_refusal(name: &[u8], number: u8, place: usize) {
-    print_field(name, number as u64);
-    print_field(b" ", place as u64);
-}
-
-pub fn print_verdict(verdict: Verdict) {
+// What a call came to.
+pub fn put_verdict(out: &mut [u8], at: usize, verdict: Verdict) -> usize
+    ensures { λ r. ⌜ (r, now (out .exit)) ≡ puts (at, now (out .entry)) (verdictText (ruling verdict)) ⌝ }
+{
     match verdict {
-        Verdict::Accepted => {
-            io::write_all(1, b"accepted");
-        }
-        Verdict::Refused(number, place) => print_refusal(b"refused ", number, place),
+        Verdict::Accepted => text::put(out, at, b"accepted"),
+        Verdict::Refused(number, place) => put_refusal(out, at, number, place),
     }
 }
 
-fn print_slots(base: u16, offset: u16, period: u16) {
-    print_field(b" base ", base as u64);
-    print_field(b" offset ", offset as u64);
-    print_field(b" period ", period as u64);
-    io::write_all(1, b"\n");
-}
-
-fn print_link(site: Site, i: usize)
-    requires { ⌜ i < 63 ⌝ }
+fn put_refusal_line(out: &mut [u8], at: usize, number: u8, place: usize) -> usize
+    ensures { λ r. ⌜ (r, now (out .exit)) ≡ puts (at, now (out .entry)) (refusalLine number place) ⌝ }
 {
-    let parent = site.parents[i];
-    print_field(b"link ", i as u64 + 1);
-    print_field(b" parent ", parent as u64);
-    print_slots(
-        schedule::base_under(site, parent),
-        site.offsets[i],
-        site.periods[i],
-    );
+    let told = put_refusal(out, at, number, place);
+    text::put(out, told, b"\n")
 }
 
-fn print_flow(site: Site, n: usize)
-    requires { ⌜ n < 64 ⌝ }
+fn put_site(out: &mut [u8], at: usize, site: Site) -> usize
+    ensures { λ r. ⌜ (r, now (out .exit)) ≡ puts (at, now (out .entry)) (siteLines site) ⌝ }
 {
-    let entry = site.entries[n];
-    let rate = site.rates[n];
-    let deadline = site.deadlines[n];
-    print_field(b"flow ", n as u64);
-    print_field(b" node ", entry as u64);
-    print_field(b" rate ", rate as u64);
-    print_field(b" deadline ", deadline as u64);
-    print_field(b" bound ", site::delay_bound(site, n as u8) as u64);
-    io::write_all(1, b"\n");
+    let linked = put_links(out, at, site);
+    let flown = put_flows(out, linked, site);
+    put_counts(out, flown, site)
 }
 
-fn print_links(site: Site) {
-    let links = site.links as usize;
-    let mut i = 0;
-    while i < 63 {
-        if i < links {
-            print_link(site, i);
-        }
-        i += 1;
+// The front of a text, if the slice has room for it.
+fn deliver(text: &[u8], size: usize, out: &mut [u8]) -> Written
+    requires { ⌜ size ≤ length (now text) ⌝ }
+    ensures { λ r. ⌜ (writing r, now (out .exit)) ≡ written (take size (now (text .entry))) (now (out .entry)) ⌝ }
+{
+    if out.len() < size {
+        return Written::Refused(1, 0);
     }
+    text::put(out, 0, &text[0..size]);
+    Written::Length(size)
 }
 
-fn print_flows(site: Site) {
-    let mut n = 0;
-    while n < 64 {
-        if site.states[n] == 1 {
-            print_flow(site, n);
-        }
-        n += 1;
-    }
-}
-
-fn flow_count(site: Site) -> u64 {
-    let mut count = 0;
-    let mut n = 0;
-    while n < 64 {
-        if site.states[n] == 1 {
-            count += 1;
-        }
-        n += 1;
-    }
-    count
-}
-
-// The line of an accepted plan: how many links and flows its site has.
-pub fn print_counts(site: Site) {
-    print_field(b"accepted links ", site.links as u64);
-    print_field(b" flows ", flow_count(site));
-    io::write_all(1, b"\n");
-}
-
-// All lines of an accepted plan.
-pub fn print_site(site: Site) {
-    print_links(site);
-    print_flows(site);
-    print_counts(site);
-}
-
-// Reads the bytes as a plan and prints its links, its flows and their numbers, or the refusal.
-fn print_plan(bytes: &[u8]) {
+// What is printed of plan bytes. No text is longer than 8,192 bytes: the law `report-short`.
+pub fn report(bytes: &[u8], out: &mut [u8]) -> Written
+    ensures { λ r. ⌜ (writing r, now (out .exit)) ≡ written (reportOf (now (bytes .entry))) (now (out .entry)) ⌝ }
+{
+    let mut lines = [0u8; 8192];
     let read = reader::read_plan(bytes);
     let verdict = read.verdict;
     match verdict {
-        Verdict::Accepted => print_site(read.site),
-        Verdict::Refused(_, _) => {
-            print_verdict(verdict);
-            io::write_all(1, b"\n");
+        Verdict::Accepted => {
+            let size = put_site(&mut lines, 0, read.site);
+            deliver(&lines, size, out)
+        }
+        Verdict::Refused(number, place) => {
+            let size = put_refusal_line(&mut lines, 0, number, place);
+            deliver(&lines, size, out)
         }
     }
 }
 
-// The plan on standard input. No input can pass more than 63 NODEs, 64 FLOWs and END, so its first 1,024 bytes settle every answer: this is
-// the law `read-first` of crate `reader`.
-pub fn print_input() {
-    let mut bytes = [0u8; 1024];
-    let n = io::read_full(0, &mut bytes);
-    print_plan(&bytes[..n]);
+// What is printed of schedule bytes.
+pub fn report_schedule(bytes: &[u8], out: &mut [u8]) -> Written
+    ensures { λ r. ⌜ (writing r, now (out .exit)) ≡ written (scheduleReportOf (now (bytes .entry))) (now (out .entry)) ⌝ }
+{
+    let mut lines = [0u8; 8192];
+    let read = schedule_file::read_schedule(bytes);
+    let verdict = read.verdict;
+    match verdict {
+        Verdict::Accepted => {
+            let size = put_schedule(&mut lines, 0, read.schedule);
+            deliver(&lines, size, out)
+        }
+        Verdict::Refused(number, place) => {
+            let size = put_refusal_line(&mut lines, 0, number, place);
+            deliver(&lines, size, out)
+        }
+    }
+}
+
+// Plan bytes as lines that can be typed again.
+pub fn list_plan(bytes: &[u8], out: &mut [u8]) -> Written
+    ensures { λ r. ⌜ (writing r, now (out .exit)) ≡ written (listingOf (now (bytes .entry))) (now (out .entry)) ⌝ }
+{
+    let mut lines = [0u8; 8192];
+    let read = reader::read_plan(bytes);
+    let verdict = read.verdict;
+    match verdict {
+        Verdict::Accepted => {
+            let size = put_plan(&mut lines, 0, read.site);
+            deliver(&lines, size, out)
+        }
+        Verdict::Refused(number, place) => {
+            let size = put_refusal_line(&mut lines, 0, number, place);
+            deliver(&lines, size, out)
+        }
+    }
 }

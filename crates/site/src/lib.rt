@@ -7,6 +7,7 @@ pub use reservations::delay_bound;
 pub use reservations::first_faults;
 pub use reservations::first_unfit;
 pub use reservations::gaps_along;
+pub use reservations::loads;
 pub use tree::depth;
 pub use tree::parent_of;
 pub use tree::value_of;

@@ -3,6 +3,9 @@ use writer::Written;
 ghost use Prim.Native.Nat.{_%_, _≤_, _<_, min};
 ghost use mathlib.Core.Path.{_≡_};
 ghost use lib.ListN.{length};
+ghost use Rattle.text.specs.Put.{puts};
+ghost use Rattle.writer.specs.Write.{writing};
+ghost use Rattle.test_text.specs.Printed.{writtenText, leftText};
 
 // A decimal number of a line and the index behind its last digit. Where there is none, `found` is false and the index is the line's length.
 pub struct Number {
@@ -47,16 +50,6 @@ pub fn begins(line: &[u8], byte: u8) -> bool {
         return false;
     }
     line[0] == byte
-}
-
-// Prints a line that begins with `#`; answers whether it does.
-pub fn echo(line: &[u8]) -> bool {
-    if begins(line, b'#') {
-        io::write_all(1, line);
-        io::write_all(1, b"\n");
-        return true;
-    }
-    false
 }
 
 // The value of a hexadecimal digit, 16 for any other byte.
@@ -230,11 +223,19 @@ pub fn low32(value: usize) -> u32
 }
 
 // A writer's answer: the number of bytes, or the refusal.
-pub fn print_written(name: &[u8], written: Written) {
-    io::write_all(1, name);
+pub fn put_written(out: &mut [u8], at: usize, name: &[u8], written: Written) -> usize
+    ensures { λ r. ⌜ (r, now (out .exit)) ≡ puts (at, now (out .entry)) (writtenText (now (name .entry)) (writing written)) ⌝ }
+{
     match written {
-        Written::Length(n) => report::print_field(b" ", n as u64),
-        Written::Refused(number, place) => report::print_refusal(b" refused ", number, place),
+        Written::Length(n) => {
+            let named = text::put(out, at, name);
+            text::put_field(out, named, b" ", n as u64)
+        }
+        Written::Refused(number, place) => {
+            let named = text::put(out, at, name);
+            let spaced = text::put(out, named, b" ");
+            report::put_refusal(out, spaced, number, place)
+        }
     }
 }
 
@@ -252,10 +253,13 @@ pub fn numbered() -> [u8; 64]
 }
 
 // A writer's answer, and what the slice holds then.
-pub fn print_left(name: &[u8], written: Written, out: &[u8]) {
-    print_written(name, written);
-    io::write_all(1, b":");
-    report::print_hex(out);
+pub fn put_left(out: &mut [u8], at: usize, name: &[u8], written: Written, bytes: &[u8]) -> usize
+    ensures { λ r. ⌜ (r, now (out .exit))
+        ≡ puts (at, now (out .entry)) (leftText (now (name .entry)) (writing written) (now (bytes .entry))) ⌝ }
+{
+    let told = put_written(out, at, name, written);
+    let parted = text::put(out, told, b":");
+    text::put_hex(out, parted, bytes)
 }
 
 fn differs(a: u8, b: u8) -> usize

@@ -1,0 +1,39 @@
+-- What is shown of a site and its counters while calls are made on them, as pieces of text.
+use Prim.Native.Nat.{ℕ, _+_, _*_}
+use mathlib.Core.Bool.{cond}
+use mathlib.Core.List.{List, [], _∷_, _++_}
+use lib.Dec.{leb}
+use lib.ListN.{length, getD, take, drop}
+use Rattle.pinwheel.specs.Outcome.{Outcome, accepted, refused}
+use Rattle.site.specs.declared.Site.{Site}
+use Rattle.site.specs.Sites.{live}
+use Rattle.site.specs.Reservations.{delayBound}
+use Rattle.limits.specs.Check.{passesOf}
+use Rattle.writer.specs.Write.{scheduleOf, planBytes, scheduleBytes}
+use Rattle.text.specs.Letters.{letters}
+use Rattle.text.specs.Decimal.{decimal}
+use Rattle.text.specs.Listed.{each, spacedDecimal, hexText}
+use Rattle.report.specs.Report.{refusal}
+
+-- The child that sends, or the refusal of the lookup.
+unfoldable pub lookupText : Outcome ℕ → List (List ℕ)
+lookupText (accepted child) = letters "sender " ∷ decimal child ∷ []
+lookupText (refused number place) = refusal number place
+
+-- The nine cells of a flow number, where there are so many counters: its queues from the entry link upward, then the delivered count.
+unfoldable pub cellsText : List ℕ → ℕ → List (List ℕ)
+cellsText counters number =
+    letters "cells" ∷ cond (leb (9 * number + 9) (length counters)) (each spacedDecimal (take 9 (drop (9 * number) counters))) []
+
+-- G and the deadline of a live flow.
+unfoldable pub boundText : Site → ℕ → List (List ℕ)
+boundText s number =
+    cond (live s number) (letters "bound " ∷ decimal (delayBound s number) ∷ letters " deadline " ∷ decimal (getD (s .deadlines) number 0) ∷ [])
+    (letters "not live" ∷ [])
+
+-- The bytes of the plan and of the schedule of a site that passes check 14; 14 of any other.
+unfoldable pub planText : Site → List (List ℕ)
+planText s = cond (passesOf s) (hexText (planBytes s)) (refusal 14 0)
+
+unfoldable pub scheduleText : Site → List (List ℕ)
+scheduleText s = cond (passesOf s) (hexText (scheduleBytes (scheduleOf s))) (refusal 14 0)

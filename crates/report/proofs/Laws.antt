@@ -1,0 +1,5 @@
+-- What is proved of what is printed.
+pub mod Lines
+pub mod Deliver
+pub mod Read
+pub mod Short

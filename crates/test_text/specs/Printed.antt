@@ -1,0 +1,17 @@
+-- What the test programs print of a writer's answer.
+use Prim.Native.Nat.{ℕ}
+use mathlib.Core.List.{List, [], _∷_, _++_}
+use Rattle.pinwheel.specs.Outcome.{Outcome, accepted, refused}
+use Rattle.text.specs.Letters.{letters}
+use Rattle.text.specs.Decimal.{decimal}
+use Rattle.text.specs.Listed.{each, spacedHex}
+use Rattle.report.specs.Report.{refusal}
+
+-- The number of bytes written, or the refusal.
+unfoldable pub writtenText : List ℕ → Outcome ℕ → List (List ℕ)
+writtenText name (accepted n) = name ∷ letters " " ∷ decimal n ∷ []
+writtenText name (refused number place) = name ∷ letters " " ∷ refusal number place
+
+-- That, and what the slice holds then.
+unfoldable pub leftText : List ℕ → Outcome ℕ → List ℕ → List (List ℕ)
+leftText name o bytes = writtenText name o ++ (letters ":" ∷ each spacedHex bytes)

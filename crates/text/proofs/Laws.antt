@@ -1,0 +1,4 @@
+-- What is proved of printed text.
+pub mod Put
+pub mod Decimal
+pub mod Listed

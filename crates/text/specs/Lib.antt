@@ -1,0 +1,4 @@
+pub mod Letters
+pub mod Decimal
+pub mod Put
+pub mod Listed
