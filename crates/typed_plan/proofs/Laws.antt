@@ -1,0 +1,3 @@
+-- What is proved of typed plans.
+pub mod Operands
+pub mod Plans

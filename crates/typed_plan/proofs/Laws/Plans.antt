@@ -1,0 +1,2 @@
+-- All lines of a typed plan, read one after the other.
+use Prim.Native.Nat.{ℕ}
