@@ -1,16 +1,16 @@
 -- The operands of a line, read one after the other.
-use Prim.Native.Nat.{ℕ, zero, suc, _+_}
+use Prim.Native.Nat.{ℕ, suc, _+_, _-_}
 use mathlib.Core.Path.{_≡_, refl, sym, _∙_, ap}
 use mathlib.Core.Bool.{Bool, true, false, cond, not, true≢false}
 use mathlib.Core.List.{List, [], _∷_}
 use lib.Dec.{eqb}
-use lib.ListN.{getD}
-use borrow.Author.Tests.{not-true, not-false}
+use lib.ListN.{getD, take, drop}
+use borrow.Author.Tests.{eq-eqb, ne-eqb, not-true, not-false}
 use native.Mathlib.Nat.{zero-add}
 use native.Mathlib.Omega.{arith}
 use Rattle.text.specs.Letters.{letters}
 use Rattle.text.specs.Decimal.{valueOf, isNumber}
-use Rattle.words.specs.Words.{wordsOf, none, alike, operandOf}
+use Rattle.words.specs.Words.{wordsOf, none, alike, operandOf, NextWord}
 use Rattle.typed_plan.specs.declared.Typed.{Typed}
 use Rattle.typed_plan.specs.declared.Typed.the-variants.{Nothing, Node, Flow, Bad}
 use Rattle.typed_plan.specs.Lines.{wrong, said, nodeLimits, flowLimits, nodeLine, flowLine, commandOf}
@@ -99,3 +99,27 @@ module _ (words : List (List ℕ)) where
       → Flow a b c d ≡ flowLine words
   unfolding flowLine
   flow-right a b c d e p q r t = rw (e, p, q, r, t)
+
+-- The command that the first word names.
+module _ (line : List ℕ) (start end : ℕ) (w : NextWord line 0 start end) where
+  pub unnamed : start ≡ end → Nothing ≡ commandOf (wordsOf line)
+  unfolding commandOf
+  unnamed e = sym (rw (w .words, eq-eqb _ _ e))
+
+  module _ (n : start ≡ end → ⊥) where
+    named : wordsOf line ≡ take (end - start) (drop start line) ∷ wordsOf (drop end line)
+    named = w .words ∙ rw (ne-eqb _ _ n)
+
+    module _ (a : Bool) (p : a ≡ alike (take (end - start) (drop start line)) (letters "node")) where
+      pub named-node : a ≡ true → (r : Typed) → r ≡ nodeLine (wordsOf (drop end line)) → r ≡ commandOf (wordsOf line)
+      unfolding commandOf
+      named-node t r q = q ∙ sym (rw (named, sym p ∙ t))
+
+      module _ (f : a ≡ false) (b : Bool) (q : b ≡ alike (take (end - start) (drop start line)) (letters "flow")) where
+        pub named-flow : b ≡ true → (r : Typed) → r ≡ flowLine (wordsOf (drop end line)) → r ≡ commandOf (wordsOf line)
+        unfolding commandOf
+        named-flow t r o = o ∙ sym (rw (named, sym p ∙ f, sym q ∙ t))
+
+        pub named-other : b ≡ false → Bad 0 1 ≡ commandOf (wordsOf line)
+        unfolding commandOf
+        named-other t = sym (rw (named, sym p ∙ f, sym q ∙ t))

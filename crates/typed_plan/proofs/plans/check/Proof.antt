@@ -1,76 +1,64 @@
+-- Right because no line before the index is wrong, and the size is that of their commands and END; length text - at falls.
+use borrow.Author.Needs.{needs}
+use Prim.Native.Nat.{_-_}
+use lib.ListN.{length}
+use native.Mathlib.Omega.{arith}
+use Rattle.typed_plan.proofs.Laws.Plans.{piece-short, Checking, checking-start, checking-wrong, checking-more, checking-last, line-on}
 use Rattle.typed_plan.proofs.plans.check.Statement.{statement}
 use Rattle.typed_plan.proofs.plans.check.Tie as tie
-use Rattle.typed_plan.proofs.plans.check.Reads as reads
-use Rattle.typed_plan.proofs.plans.check.Lts as lts
-use Rattle.typed_plan.proofs.lines.read_line.Reads as read-line-reads
-use Rattle.typed_plan.proofs.plans.command_size.Reads as command-size-reads
-use Rattle.words.proofs.find.Reads as find-reads
 
 abbrev Inv-loop : tie.InvT-loop
-Inv-loop text at₀ line₀ size₀ at line size = ?
+Inv-loop text at₀ line₀ size₀ at line size = Checking text at line size
 
 abbrev μ-loop : tie.MeasureT-loop
-μ-loop text at₀ line₀ size₀ at line size = ?
+μ-loop text at₀ line₀ size₀ at line size = length text - at
 
--- src/plans.rt:34:5
 loop-holds : tie.Need-loop-holds Inv-loop μ-loop
-loop-holds c = ?
+loop-holds c = checking-start _
 
--- src/plans.rt:35:13
 find-requires : tie.Need-find-requires Inv-loop μ-loop
-find-requires c κs = ?
+find-requires c κs = search needs
 
--- src/plans.rt:36:31
 sub-read-line : tie.Need-sub-read-line Inv-loop μ-loop
-sub-read-line c = ?
+sub-read-line c = line-on _ _ _ (c .find .ensures) (c .before .loop .inv .few)
 
--- src/plans.rt:36:31
 part-read-line-start : tie.Need-part-read-line-start Inv-loop μ-loop
-part-read-line-start c = ?
+part-read-line-start c = search needs
 
--- src/plans.rt:36:31
 part-read-line-end : tie.Need-part-read-line-end Inv-loop μ-loop
-part-read-line-end c = ?
+part-read-line-end c = c .find .ensures .within
 
--- src/plans.rt:36:13
 read-line-requires : tie.Need-read-line-requires Inv-loop μ-loop
-read-line-requires c κs = ?
+read-line-requires c κs = search needs
 
--- src/plans.rt:37:27
 enum-known-typed : tie.Need-enum-known-typed Inv-loop μ-loop
-enum-known-typed c = ?
+enum-known-typed c = search needs
 
--- src/plans.rt:38:13
 returns : tie.Need-returns Inv-loop μ-loop
-returns c = ?
+returns c = checking-wrong _ _ _ _ _ _ (c .before .before .before .before .before .before .loop .inv) (c .before .before .before .before .before .find .ensures) (c .before .before .before .read-line .ensures) _ _ (c .before .typed .given .1) _
 
--- src/plans.rt:40:17
 command-size-requires : tie.Need-command-size-requires Inv-loop μ-loop
-command-size-requires c κs = ?
+command-size-requires c κs = search needs
 
--- src/plans.rt:40:9
 add-size : tie.Need-add-size Inv-loop μ-loop
-add-size c = ?
+add-size c = omega (arith, c .before .before .before .before .before .loop .inv .small, c .before .before .before .before .before .loop .inv .lines, c .before .before .before .before .before .loop .inv .few, c .command-size .ensures, piece-short (c .before .before .read-line .result))
 
--- src/plans.rt:42:13
 returns-2 : tie.Need-returns-2 Inv-loop μ-loop
-returns-2 c = ?
+returns-2 c = checking-last _ _ _ _ _ _ (c .before .before .before .before .before .before .loop .inv) (c .before .before .before .before .before .find .ensures) (c .before .before .before .read-line .ensures) (c .before .before .match .keys2) _ (c .before .command-size .ensures) (c .if1 .taken)
 
--- src/plans.rt:44:14
 add-at : tie.Need-add-at Inv-loop μ-loop
-add-at c = ?
+add-at c = omega (arith, c .before .before .before .before .before .find .ensures .within)
 
--- src/plans.rt:45:9
 add-line : tie.Need-add-line Inv-loop μ-loop
-add-line c = ?
+add-line c = omega (arith, c .before .before .before .before .before .before .loop .inv .lines, c .before .before .before .before .before .before .loop .inv .few)
 
--- src/plans.rt:34:5
 loop-less : tie.Need-loop-less Inv-loop μ-loop
-loop-less c = ?
+loop-less c = omega (arith, c .before .before .before .before .before .find .ensures .within, line-on _ _ _ (c .before .before .before .before .before .find .ensures) (c .before .before .before .before .before .before .loop .inv .few))
 
--- src/plans.rt:34:5
 loop-again : tie.Need-loop-again Inv-loop μ-loop
-loop-again c = ?
+loop-again c =
+    checking-more _ _ _ _ _ _ (c .before .before .before .before .before .before .loop .inv) (c .before .before .before .before .before .find .ensures) (c .before .before .before .read-line .ensures) (c .before .before .match .keys2) _ (c .before .command-size .ensures)
+    (omega (arith, c .before .before .before .before .before .find .ensures .within))
 
 pub check-spec : {M : Type 1} → statement M
 check-spec =
