@@ -14,7 +14,7 @@ use native.Mathlib.Omega.{arith}
 use Rattle.format.specs.Bytes.{bytesOf}
 use Rattle.text.specs.Put.{put, puts, textOf}
 use Rattle.text.proofs.Laws.Put.{puts-one, puts-then, puts-long, puts-whole, text-append}
-use Rattle.words.specs.Parts.{is, linesOf, Reaches}
+use Rattle.words.specs.Parts.{onto, parts, is, linesOf, Reaches}
 use Rattle.words.proofs.Laws.Parts.{parts-marked, parts-last}
 use Rattle.typed_plan.proofs.Typed.{the-type}
 use Rattle.typed_plan.proofs.Assembled.{the-type as assembled-type}
@@ -204,3 +204,24 @@ module _ (text out : List ℕ) (few : length text ≤ 65535) (a : Assembled) (e 
       go (BadLine k command place) h = refl
       go Short h = refl
       go Long h = refl
+
+-- A command has at most six bytes, and a text no more lines than bytes and one.
+pieces-short : (ls : List (List ℕ)) → length (textOf (piecesOf ls)) ≤ 6 * length ls + 1
+unfolding piecesOf textOf
+pieces-short [] = omega arith
+pieces-short (l ∷ ls) = omega (arith, pieces-short ls, piece-short (typedLine l), text-append (pieceOf (typedLine l)) (piecesOf ls))
+
+lines-few : (text : List ℕ) → length (linesOf text) ≤ length text + 1
+unfolding linesOf parts onto
+lines-few [] = omega arith
+lines-few (c ∷ cs) = go (is 10 c) (parts (is 10) cs) (lines-few cs)
+  where
+    go : (b : Bool) (ps : List (List ℕ)) → length ps ≤ length cs + 1 → length (cond b ([] ∷ ps) (onto c ps)) ≤ length (c ∷ cs) + 1
+    go true ps l = omega arith
+    go false [] l = omega arith
+    go false (p ∷ ps) l = omega arith
+
+-- So a slice of 393,217 bytes has room for the plan of every text that is not too long.
+pub plan-short : (text : List ℕ) → length text ≤ 65535 → length (planTyped text) ≤ 393217
+unfolding planTyped
+plan-short text l = omega (arith, pieces-short (linesOf text), lines-few text)
