@@ -20,11 +20,11 @@ lt-or-le a b = elim (decLt a b) [ yes l ↦ inl l | no m ↦ inr (omega arith) ]
 one-digit : (k n : ℕ) → n < 10 → digitsBy k n ≡ (48 + n) ∷ []
 unfolding digitsBy
 one-digit zero n l = refl
-one-digit (suc k) n l = rw (lt-ltb _ _ l)
+one-digit (suc k) n l = ap (λ (few : Bool). cond few ((48 + n) ∷ []) (digitsBy k (n / 10) ++ ((48 + n % 10) ∷ []))) (lt-ltb n 10 l)
 
 more-digits : (k n : ℕ) → 10 ≤ n → digitsBy (suc k) n ≡ digitsBy k (n / 10) ++ ((48 + n % 10) ∷ [])
 unfolding digitsBy
-more-digits k n l = rw (le-ltb _ _ l)
+more-digits k n l = ap (λ (few : Bool). cond few ((48 + n) ∷ []) (digitsBy k (n / 10) ++ ((48 + n % 10) ∷ []))) (le-ltb n 10 l)
 
 -- Steps beyond n change nothing.
 steps-alike : (k j n : ℕ) → n ≤ k → n ≤ j → digitsBy k n ≡ digitsBy j n
