@@ -1,6 +1,6 @@
 -- Pieces of text in a borrowed space: how one is stored byte by byte, and what several leave together.
 use Prim.Native.Nat.{ℕ, _+_, _≤_, _<_}
-use mathlib.Core.Path.{_≡_, refl, sym, _∙_, ap, subst}
+use mathlib.Core.Path.{_≡_, refl, sym, _∙_, ap}
 use mathlib.Core.Bool.{Bool, true, false, cond}
 use mathlib.Core.List.{List, [], _∷_, _++_, append-assoc, append-nil}
 use lib.Dec.{leb}
@@ -112,8 +112,11 @@ puts-front at out ps room =
     let size : length (take at out ++ textOf ps) ≡ at + length (textOf ps) = length-append (take at out) (textOf ps) ∙ rw (length-take-le at out (omega arith)) in
     rw (puts-whole at out ps room) (refl, take-at (take at out ++ textOf ps) (drop (at + length (textOf ps)) out) (at + length (textOf ps)) size)
 
--- The text of some pieces and others is as long as both.
-pub text-append : (ps qs : List (List ℕ)) → length (textOf (ps ++ qs)) ≡ length (textOf ps) + length (textOf qs)
+-- The text of some pieces and others is that of both, and as long as both.
+pub text-joined : (ps qs : List (List ℕ)) → textOf (ps ++ qs) ≡ textOf ps ++ textOf qs
 unfolding textOf
-text-append [] qs = omega arith
-text-append (p ∷ ps) qs = length-append p (textOf (ps ++ qs)) ∙ omega (arith, text-append ps qs, length-append p (textOf ps))
+text-joined [] qs = refl
+text-joined (p ∷ ps) qs = rw (text-joined ps qs) (sym (append-assoc p (textOf ps) (textOf qs)))
+
+pub text-append : (ps qs : List (List ℕ)) → length (textOf (ps ++ qs)) ≡ length (textOf ps) + length (textOf qs)
+text-append ps qs = ap length (text-joined ps qs) ∙ length-append (textOf ps) (textOf qs)

@@ -4,8 +4,7 @@ use mathlib.Core.Path.{_≡_, refl, sym, _∙_, ap}
 use mathlib.Core.Bool.{Bool, true, false, cond}
 use mathlib.Core.List.{List, [], _∷_, _++_}
 use mathlib.Core.Logic.{_⊎_, inl, inr}
-use lib.ListN.{length, take, drop, length-append}
-use lib.Dec.{ltb}
+use lib.ListN.{length, take, drop}
 use borrow.Author.Tests.{lt-ltb, le-ltb}
 use native.Mathlib.Nat.{eq-or-lt-of-le, zero-add}
 use denote.Enum.Declared.{tagOf}
@@ -174,7 +173,7 @@ checked-length (l ∷ ls) k n = go (typedLine l) (checked-length ls (k + 1) n)
     go (Bad a b) e = refl
 
 module _ (text out : List ℕ) (few : length text ≤ 65535) (a : Assembled) (e : a ≡ firstWrong (linesOf text) 1 (Length (length (planTyped text)))) where
-  judged : assembledOf text out ≡ stored a (planTyped text) out
+  pub judged : assembledOf text out ≡ stored a (planTyped text) out
   unfolding assembledOf
   judged = rw (le-ltb _ _ few, e)
 
