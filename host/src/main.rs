@@ -10,6 +10,7 @@ mod call_lines;
 mod calls;
 mod compare;
 mod compare_library;
+mod compare_typed;
 mod damage;
 #[cfg(test)]
 mod declarations;
@@ -32,16 +33,20 @@ mod random_plans;
 mod random_schedules;
 mod random_sessions;
 mod random_sites;
+mod random_typed;
 mod rehearsal;
 mod rehearse_lines;
 mod rules;
+mod running;
 mod schedule_lines;
 mod schedules;
 mod shrink;
 mod slots;
 #[cfg(test)]
 mod trust;
+mod typed;
 mod watch;
+mod words;
 
 use std::path::Path;
 use std::process::ExitCode;
