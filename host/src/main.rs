@@ -18,11 +18,17 @@ mod expected;
 #[cfg(test)]
 mod former;
 mod functions;
+#[cfg(test)]
+mod guide;
+#[cfg(test)]
+mod habits;
 mod host_calls;
 mod library;
 mod lines;
 mod model;
 mod outcomes;
+#[cfg(test)]
+mod places;
 mod plain;
 mod programs;
 mod random;
@@ -38,6 +44,8 @@ mod rehearsal;
 mod rehearse_lines;
 mod rules;
 mod running;
+#[cfg(test)]
+mod samples;
 mod schedule_lines;
 mod schedules;
 mod shrink;

@@ -176,6 +176,16 @@ pub const FUNCTIONS_WITHOUT_LINKS: &[Call] = &[
     call(["bound", "bound "], &[], &[5, 16]),
 ];
 
+/// The numbers that refuse some call of the library, rising.
+#[cfg(test)]
+pub fn refusal_numbers() -> Vec<u64> {
+    let refusals = FUNCTIONS.iter().flat_map(|call| call.refusals);
+    let mut numbers: Vec<u64> = refusals.copied().collect();
+    numbers.sort();
+    numbers.dedup();
+    numbers
+}
+
 struct Outcome {
     line_begins: &'static str,
     answer_begins: String,
