@@ -109,7 +109,7 @@ pub fn compare_one(program: &Path, file: &[u8], expected: String) -> Result<(), 
     compare(program, &[], file, &[case])
 }
 
-/// Standard output and standard error of a program, both in full. The input comes after a difference as it is shown.
+/// Standard output and standard error of a program, both in full. With a difference come the lines of the input, escaped.
 pub fn compare_both(
     program: &Path,
     arguments: &[&Path],

@@ -169,10 +169,10 @@ fn commands_of(block: &Block) -> Result<Vec<Shown>, String> {
             return Err(format!("line {line}: printed by no command"));
         }
     }
-    match commands.is_empty() {
-        true => Err(format!("line {}: a block without a command", block.line)),
-        false => Ok(commands),
+    if commands.is_empty() {
+        return Err(format!("line {}: a block without a command", block.line));
     }
+    Ok(commands)
 }
 
 impl Shown {
@@ -214,13 +214,17 @@ impl Place {
         Place { folder }
     }
 
-    /// With the samples and the programs of the repository in their places.
+    /// With the samples and the programs of the repository in their places: a command may write among the samples, which are copies.
     fn of_planner(name: &str, top: &Path) -> Place {
         let place = Place::new(name);
-        for linked in ["samples", "target/bin"] {
-            let path = fs::canonicalize(top.join(linked)).unwrap();
-            symlink(path, place.work().join(linked)).unwrap();
+        let samples = place.work().join("samples");
+        fs::create_dir(&samples).unwrap();
+        for file in fs::read_dir(top.join("samples")).unwrap() {
+            let file = file.unwrap();
+            fs::copy(file.path(), samples.join(file.file_name())).unwrap();
         }
+        let programs = fs::canonicalize(top.join("target/bin")).unwrap();
+        symlink(programs, place.work().join("target/bin")).unwrap();
         place
     }
 
@@ -264,14 +268,12 @@ fn succeed_at_the_top(command: &str) -> Result<(), String> {
         .current_dir(top())
         .output();
     let output = run.map_err(|error| format!("sh: {error}"))?;
-    match output.status.success() {
-        true => Ok(()),
-        false => {
-            let printed = [output.stdout, output.stderr].concat();
-            let printed = String::from_utf8_lossy(&printed).into_owned();
-            Err(format!("`{command}`: {}\n{printed}", output.status))
-        }
+    if output.status.success() {
+        return Ok(());
     }
+    let printed = [output.stdout, output.stderr].concat();
+    let printed = String::from_utf8_lossy(&printed).into_owned();
+    Err(format!("`{command}`: {}\n{printed}", output.status))
 }
 
 fn build() -> Result<(), String> {

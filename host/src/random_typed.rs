@@ -1,10 +1,11 @@
 //! Random texts for assemble: the lines of plans in many spellings, about half of them with a mistake.
 
-use crate::bytes::{flow_command, of_16_bits, COMMAND_LENGTH, FLOW, NODE};
+use crate::bytes::{flow_command, of_16_bits, FLOW, NODE};
 use crate::damage::{damage_bytes, damage_commands};
 use crate::random::Random;
 use crate::random_plans::random_commands;
 use crate::typed::LONGEST_TEXT;
+use std::iter;
 
 /// The words of a line.
 type Words = Vec<String>;
@@ -13,7 +14,7 @@ pub fn random_text(random: &mut Random) -> Vec<u8> {
     match random.between(0, 99) {
         0..=1 => Vec::new(),
         2..=5 => signs(random),
-        6..=8 => long_text(random),
+        6..=9 => long_text(random),
         _ => typed_text(random),
     }
 }
@@ -23,32 +24,38 @@ fn signs(random: &mut Random) -> Vec<u8> {
     let any = random.chance(40);
     let length = random.between(1, 120);
     (0..length)
-        .map(|_| match any {
-            true => random.byte(),
-            false => random.pick(b"nodeflow   0125\t\r\n\n#"),
+        .map(|_| {
+            if any {
+                random.byte()
+            } else {
+                random.pick(b"nodeflow   0125\t\r\n\n#")
+            }
         })
         .collect()
 }
 
-/// A text that is filled up to a length near the limit, or well above it.
+/// A text that is filled up to a length near the limit, or well above it, before its lines or behind them.
 fn long_text(random: &mut Random) -> Vec<u8> {
     let near = LONGEST_TEXT - 2 + random.index(5);
-    let length = random.pick(&[near, near, LONGEST_TEXT + 1, 131_072, 200_000]);
-    let mut text = typed_text(random);
-    let fill: &[u8] = random.pick(&[
+    let length = random.pick(&[near, near, near, 60_000, 131_072, 200_000]);
+    let fills: [&[u8]; 8] = [
         b"\n",
+        b"\n",
+        b"\r\n",
         b" ",
         b"#",
         b"0",
         b"node 7 300 9\n",
         b"flow 8 6 4 700 \r\n",
-    ]);
-    if random.chance(70) {
-        text.push(b'\n');
-    }
+    ];
+    let (fill, text) = (random.pick(&fills), typed_text(random));
     let missing = length.saturating_sub(text.len());
-    text.extend(fill.iter().cycle().take(missing));
-    text
+    let filling: Vec<u8> = fill.iter().copied().cycle().take(missing).collect();
+    if random.chance(50) {
+        [filling, text].concat()
+    } else {
+        [text, filling].concat()
+    }
 }
 
 fn typed_text(random: &mut Random) -> Vec<u8> {
@@ -86,21 +93,23 @@ fn random_lines(random: &mut Random) -> Vec<Words> {
 
 /// None: not the bytes of a NODE or a FLOW.
 fn typed_words(command: &[u8]) -> Option<Words> {
-    let [first, second, third, fourth, ..] = *command else {
+    let &[first, second, third, fourth, fifth, sixth] = command else {
         return None;
     };
-    let wide = |from: usize| of_16_bits(&command[from..]).to_string();
-    let words = match first {
-        _ if command.len() != COMMAND_LENGTH => return None,
-        NODE => vec!["node".to_string(), second.to_string(), wide(2), wide(4)],
+    let last = of_16_bits(&[fifth, sixth]);
+    let (name, operands) = match first {
+        NODE => {
+            let capacity = of_16_bits(&[third, fourth]);
+            ("node", vec![second.into(), capacity, last])
+        }
         FLOW => {
-            let narrow = [second, third, fourth].map(|operand| operand.to_string());
-            let [number, node, rate] = narrow;
-            vec!["flow".to_string(), number, node, rate, wide(4)]
+            let narrow = [second, third, fourth].map(u64::from);
+            ("flow", [&narrow[..], &[last]].concat())
         }
         _ => return None,
     };
-    Some(words)
+    let operands = operands.iter().map(u64::to_string);
+    Some(iter::once(name.to_string()).chain(operands).collect())
 }
 
 /// Words that are no number. Of the last ones 8, 16, 32 or 64 bits would be a number that fits.
@@ -211,18 +220,19 @@ fn spelled_line(random: &mut Random, words: &[String], variety: u64) -> String {
 }
 
 fn between_words(random: &mut Random, variety: u64) -> String {
-    match random.chance(variety) {
-        true => blanks(random),
-        false => " ".to_string(),
+    if random.chance(variety) {
+        blanks(random)
+    } else {
+        " ".to_string()
     }
 }
 
 fn blanks(random: &mut Random) -> String {
     let some = ["\t", "\t", "\r", "  ", " \t ", "\t\t", "\r \r"];
-    match random.chance(2) {
-        true => " ".repeat(3000),
-        false => random.pick(&some).to_string(),
+    if random.chance(2) {
+        return " ".repeat(3000);
     }
+    random.pick(&some).to_string()
 }
 
 fn comment(random: &mut Random) -> String {
@@ -235,10 +245,10 @@ fn comment(random: &mut Random) -> String {
         "#\t\u{e4}",
         "# 1\r2",
     ];
-    match random.chance(2) {
-        true => "# and so on ".repeat(400),
-        false => random.pick(&some).to_string(),
+    if random.chance(2) {
+        return "# and so on ".repeat(400);
     }
+    random.pick(&some).to_string()
 }
 
 /// A line without words.
@@ -276,7 +286,7 @@ mod tests {
     #[test]
     fn random_texts_have_every_spelling() {
         let mut random = Random::from_seed(43);
-        let spellings: [fn(&str) -> bool; 9] = [
+        let spellings: [fn(&str) -> bool; 10] = [
             |text| text.contains('\t'),
             |text| text.contains("\r\n"),
             |text| text.contains("\r "),
@@ -286,9 +296,10 @@ mod tests {
             |text| !text.is_empty() && !text.ends_with('\n'),
             |text| text.lines().any(|line| line.len() > 2000),
             |text| text.contains('\u{fffd}') || text.contains('\u{e4}'),
+            |text| text.lines().count() > 256 && text.len() <= LONGEST_TEXT,
         ];
-        let mut met = [[0; 2]; 9];
-        for _ in 0..4000 {
+        let mut met = [[0; 2]; 10];
+        for _ in 0..6000 {
             let text = random_text(&mut random);
             let answer = usize::from(assemble(&text).is_ok());
             let text = String::from_utf8_lossy(&text);
@@ -296,7 +307,7 @@ mod tests {
                 met[answer] += u64::from(spelling(&text));
             }
         }
-        assert!(met.iter().flatten().all(|&count| count >= 15), "{met:?}");
+        assert!(met.iter().flatten().all(|&count| count >= 8), "{met:?}");
     }
 
     #[test]

@@ -10,7 +10,7 @@ use std::thread;
 use std::time::Duration;
 
 /// A program that runs longer has given no answer.
-pub const TIME_LIMIT: Duration = Duration::from_secs(20);
+const TIME_LIMIT: Duration = Duration::from_secs(20);
 
 /// What a program prints on standard output and on standard error.
 #[derive(Debug, PartialEq, Eq)]
