@@ -1,7 +1,7 @@
 //! Tests of the built programs' habits: wrong arguments are told in one line on standard error, and no input keeps a program from its end.
 
 use crate::guide::built_programs;
-use crate::places::{read, top, Folder};
+use crate::places::{read, top};
 use crate::programs::{output, ASSEMBLE, REHEARSE};
 use crate::rehearse_lines::{cannot_open, rehearse, USAGE};
 use crate::running::{run, Printed};
@@ -61,10 +61,19 @@ fn rehearse_tells_a_wrong_argument_in_one_line() {
     let plan = sample_plan();
     assert_eq!(told(REHEARSE, &[]), USAGE);
     assert_eq!(told(REHEARSE, &[&plan, &plan]), USAGE);
-    let folder = Folder::new("habits");
-    let missing = folder.0.join("none.plan");
+    let missing = top().join("samples/none.plan");
     assert_eq!(told(REHEARSE, &[&missing]), cannot_open(&missing));
-    assert!(told(REHEARSE, &[&folder.0]).starts_with("rehearse: cannot "));
+}
+
+/// A folder can be opened and has no bytes, so it is a plan without END.
+#[test]
+fn rehearse_refuses_a_folder() {
+    let printed = run_built(REHEARSE, &[&top().join("samples")], b"start\n");
+    let expected = Printed {
+        out: b"refused 2 0\n".to_vec(),
+        err: String::new(),
+    };
+    assert_eq!(printed, expected);
 }
 
 /// More than any program keeps. rehearse answers every line, so the lines are long.

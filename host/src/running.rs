@@ -106,25 +106,20 @@ mod tests {
     use super::*;
     use std::time::Instant;
 
-    fn shell(command: &str, input: &[u8]) -> Result<Printed, String> {
-        let (program, limit) = (Path::new("/bin/sh"), Duration::from_secs(1));
-        run_within(
-            limit,
-            program,
-            &[Path::new("-c"), Path::new(command)],
-            input,
-        )
+    fn shell(limit: Duration, command: &str, input: &[u8]) -> Result<Printed, String> {
+        let arguments = [Path::new("-c"), Path::new(command)];
+        run_within(limit, Path::new("/bin/sh"), &arguments, input)
     }
 
     #[test]
     fn both_outputs_are_kept_apart() {
-        let printed = shell("cat; echo told >&2", b"\xFF\n").unwrap();
+        let printed = shell(TIME_LIMIT, "cat; echo told >&2", b"\xFF\n").unwrap();
         let expected = Printed {
             out: b"\xFF\n".to_vec(),
             err: "told\n".to_string(),
         };
         assert_eq!(printed.difference(&expected), None);
-        let silent = shell("cat", b"\xFF\n").unwrap();
+        let silent = shell(TIME_LIMIT, "cat", b"\xFF\n").unwrap();
         let difference = silent.difference(&expected).unwrap();
         assert!(difference.starts_with("standard error, line 1"));
         let difference = Printed::told("told").difference(&expected).unwrap();
@@ -134,16 +129,20 @@ mod tests {
     #[test]
     fn a_program_that_runs_on_or_is_ended_has_given_no_answer() {
         let begin = Instant::now();
-        assert!(shell("exec sleep 60", b"").unwrap_err().contains("no end"));
+        assert!(shell(Duration::from_secs(1), "exec sleep 60", b"")
+            .unwrap_err()
+            .contains("no end"));
         assert!(begin.elapsed() < Duration::from_secs(30));
-        assert!(shell("kill -9 $$", b"").unwrap_err().contains("signal"));
+        assert!(shell(TIME_LIMIT, "kill -9 $$", b"")
+            .unwrap_err()
+            .contains("signal"));
         assert!(run(Path::new("/none"), &[], b"").is_err());
     }
 
     #[test]
     fn a_program_need_not_read_its_input() {
         let input = vec![b'y'; 5_000_000];
-        let printed = shell("echo done", &input).unwrap();
+        let printed = shell(TIME_LIMIT, "echo done", &input).unwrap();
         assert_eq!(printed.out, b"done\n");
         let text = printed_text(Path::new("/bin/cat"), &[], &input).unwrap();
         assert_eq!(text.len(), input.len());

@@ -28,24 +28,17 @@ fn last_line(plan: &[u8]) -> String {
 #[test]
 fn each_plan_is_assembled_from_its_text() {
     let files = fs::read_dir(top().join("samples")).unwrap();
-    let mut names = BTreeSet::new();
-    for file in files {
-        let path = file.unwrap().path();
-        let ending = path.extension().and_then(|ending| ending.to_str());
-        assert!(matches!(ending, Some("txt" | "plan")), "{}", path.display());
-        let name = path.file_stem().and_then(|name| name.to_str());
-        names.insert(name.unwrap().to_string());
-    }
+    let names = files.map(|file| file.unwrap().file_name().into_string().unwrap());
+    let plans: BTreeSet<String> = names
+        .filter_map(|name| Some(name.strip_suffix(".plan")?.to_string()))
+        .collect();
     for name in ["p", "plaza", "crowded"] {
-        assert!(names.contains(name), "{name}");
+        assert!(plans.contains(name), "{name}");
     }
-    for name in names {
-        let (found, expected) = (plan(&name), assembled(&text(&name)));
-        assert_eq!(
-            commands_in_hex(&found),
-            commands_in_hex(&expected),
-            "{name}"
-        );
+    for name in plans {
+        let [found, expected] = [plan(&name), assembled(&text(&name))];
+        let [found, expected] = [found, expected].map(|bytes| commands_in_hex(&bytes));
+        assert_eq!(found, expected, "{name}");
     }
 }
 
