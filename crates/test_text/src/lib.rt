@@ -2,9 +2,7 @@
 use writer::Written;
 ghost use Prim.Native.Nat.{_%_, _-_, _*_, _+_, _<_};
 ghost use mathlib.Core.Path.{_≡_};
-ghost use mathlib.Core.Bool.{not};
-ghost use lib.Dec.{eqb};
-ghost use lib.ListN.{length, getD, take};
+ghost use lib.ListN.{take};
 ghost use Rattle.text.specs.Decimal.{isDigit, valueOf};
 ghost use Rattle.text.specs.Put.{puts};
 ghost use Rattle.writer.specs.Write.{writing};

@@ -4,18 +4,17 @@ use mathlib.Core.Path.{_≡_, refl, sym, _∙_, ap}
 use mathlib.Core.Bool.{Bool, true, false, cond, not}
 use mathlib.Core.List.{List, [], _∷_}
 use mathlib.Core.Logic.{inl, inr}
-use lib.Dec.{ltb, eqb}
+use lib.Dec.{eqb}
 use lib.ListN.{length, getD, take, drop, drop-of-length-le}
 use lib.Seq.{drop-cons, take-nil}
-use borrow.Author.Tests.{lt-ltb, le-ltb, eq-eqb, ne-eqb}
+use borrow.Author.Tests.{lt-ltb, le-ltb}
 use native.Mathlib.Nat.{pow-suc, pow-le-pow-right}
 use native.Mathlib.Numerals.{add-one}
 use native.Mathlib.Omega.{arith}
 use Rattle.pinwheel.specs.Search.{first}
-use Rattle.pinwheel.proofs.Laws.Search.{lt-or-le, first-hit, first-miss, first-end, first-passes}
+use Rattle.pinwheel.proofs.Laws.Search.{lt-or-le, first-miss, first-passes}
 use Rattle.text.specs.Decimal.{isDigit, valueFrom, valueOf}
 use Rattle.test_text.specs.declared.Number.{Number}
-use Rattle.test_text.specs.declared.Change.{Change}
 use Rattle.test_text.specs.Lines.{beginsWith, indexFrom, lineEnd, numberStart, numberEnd, numberAt, numberFrom, numberAfter, changeOf, changeFrom}
 
 -- The first byte of a line, where there is one.

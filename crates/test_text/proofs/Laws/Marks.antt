@@ -2,7 +2,7 @@
 use Prim.Native.Nat.{ℕ, zero, suc, _+_, _-_, _≤_, _<_}
 use mathlib.Core.Path.{_≡_, refl, _∙_, ap}
 use mathlib.Core.List.{List, [], _∷_, _++_, append-nil}
-use lib.ListN.{length, set, replicate, length-append, length-replicate}
+use lib.ListN.{length, set, replicate}
 use lib.Seq.{set-at, append-snoc}
 use native.Mathlib.Omega.{arith}
 use Rattle.pinwheel.specs.Search.{joined}
@@ -25,10 +25,6 @@ pub record Marked (i : ℕ) (out : List ℕ) : Type 0 where
 pub marked-start : Marked 0 (replicate 64 0)
 unfolding joined
 marked-start = record { upto = omega arith; is = refl }
-
-pub marked-long : (i : ℕ) (out : List ℕ) → Marked i out → length out ≡ 64
-marked-long i out m =
-    ap (λ (l : List ℕ). length l) (m .is) ∙ length-append (joined mark i 0) (replicate (64 - i) 0) ∙ rw (marks-long i 0, length-replicate) (omega (arith, m .upto))
 
 pub marked-more : (i : ℕ) (out : List ℕ) → Marked i out → i < 64 → Marked (i + 1) (set out i (100 + i))
 marked-more i out m l = record {

@@ -1,8 +1,7 @@
 -- Right because the bytes before the index are stored; what is left of 64 falls.
 use borrow.Author.Needs.{needs}
 use Prim.Native.Nat.{_-_}
-use native.Mathlib.Omega.{arith}
-use Rattle.test_text.proofs.Laws.Marks.{Marked, marked-start, marked-long, marked-more, marked-end}
+use Rattle.test_text.proofs.Laws.Marks.{Marked, marked-start, marked-more, marked-end}
 use Rattle.test_text.proofs.numbered.Statement.{statement}
 use Rattle.test_text.proofs.numbered.Tie as tie
 
