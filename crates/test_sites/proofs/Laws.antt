@@ -20,7 +20,7 @@ use Rattle.test_text.specs.declared.Change.{Change}
 use Rattle.test_text.specs.Lines.{changeFrom}
 use Rattle.test_text.specs.Hex.{hexBytes, filled}
 use Rattle.test_text.proofs.Laws.Lines.{change-after}
-use Rattle.test_text.proofs.Laws.Hex.{filled-front, filled-long}
+use Rattle.test_text.proofs.Laws.Hex.{filled-front}
 use Rattle.test_changes.specs.Changed.{fieldsOf}
 use Rattle.test_sites.specs.Altered.{siteOf, largest, placeOf, withEntry, changed, alteredBy, alteredFrom, siteGiven}
 
@@ -120,17 +120,10 @@ module _ (line : List ℕ) (whole : Site) (at : ℕ) (s : Site) (w : Altering li
       go (suc k) rest = rw (le-ltb at (length line) l) at rest
 
 -- The plan of a line, as much of it as was stored.
-module _ (line out new : List ℕ) (n : ℕ) (e : (n, new) ≡ filled (hexBytes line) out) where
-  pub given-within : n ≤ length new
-  unfolding filled
-  given-within =
-      let few : n ≤ length out = rw (ap (λ (w : ℕ × List ℕ). w .0) e) (omega arith) in
-      let long : length new ≡ length out = ap (λ (w : ℕ × List ℕ). length (w .1)) e ∙ filled-long (hexBytes line) out in
-      omega arith
-
-  pub given-site : (r : Ruling) (s : Site) → length out ≡ 2048 → (r, s) ≡ withSite (readOf (take (n - 0) new)) → s ≡ siteGiven line
-  unfolding siteGiven
-  given-site r s long q =
-      let front : take n new ≡ take 2048 (hexBytes line) =
-      ap (λ (w : ℕ × List ℕ). take (w .0) (w .1)) e ∙ filled-front (hexBytes line) out ∙ ap (λ (k : ℕ). take k (hexBytes line)) long in
-      ap (λ (w : Ruling × Site). w .1) q ∙ rw (sub-zero n, front)
+pub given-site : (line out new : List ℕ) (n : ℕ) (r : Ruling) (s : Site) → (n, new) ≡ filled (hexBytes line) out → length out ≡ 2048
+    → (r, s) ≡ withSite (readOf (take (n - 0) new)) → s ≡ siteGiven line
+unfolding siteGiven
+given-site line out new n r s e long q =
+    let front : take n new ≡ take 2048 (hexBytes line) =
+    ap (λ (w : ℕ × List ℕ). take (w .0) (w .1)) e ∙ filled-front (hexBytes line) out ∙ ap (λ (k : ℕ). take k (hexBytes line)) long in
+    ap (λ (w : Ruling × Site). w .1) q ∙ rw (sub-zero n, front)

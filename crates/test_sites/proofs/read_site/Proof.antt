@@ -1,6 +1,7 @@
 -- Right because the bytes that were stored are those of the line, and these are read.
 use borrow.Author.Needs.{needs}
-use Rattle.test_sites.proofs.Laws.{given-within, given-site}
+use Rattle.test_text.proofs.Laws.Hex.{filled-within}
+use Rattle.test_sites.proofs.Laws.{given-site}
 use Rattle.test_sites.proofs.read_site.Statement.{statement}
 use Rattle.test_sites.proofs.read_site.Tie as tie
 
@@ -17,13 +18,13 @@ part-read-plan-start : tie.Need-part-read-plan-start
 part-read-plan-start c = search needs
 
 part-read-plan-end : tie.Need-part-read-plan-end
-part-read-plan-end c = given-within _ _ _ _ (c .before .before .parse-hex .ensures)
+part-read-plan-end c = filled-within _ _ _ _ (c .before .before .parse-hex .ensures)
 
 read-plan-requires : tie.Need-read-plan-requires
 read-plan-requires c κs = search needs
 
 returns : tie.Need-returns
-returns c = given-site _ _ _ _ (c .before .before .before .before .before .parse-hex .ensures) _ _ (search needs) (c .before .read-plan .ensures)
+returns c = given-site _ _ _ _ _ _ (c .before .before .before .before .before .parse-hex .ensures) (search needs) (c .before .read-plan .ensures)
 
 pub read-site-spec : {M : Type 1} → statement M
 read-site-spec =

@@ -34,6 +34,13 @@ filled-front bytes out = elim (lt-or-le (length out) (length bytes)) [
   | inr l ↦ rw (filled-room bytes out l) (take-at bytes (drop (length bytes) out) (length bytes) refl ∙ sym (take-all (length out) bytes l))
 ]
 
+pub filled-within : (bytes out new : List ℕ) (n : ℕ) → (n, new) ≡ filled bytes out → n ≤ length new
+unfolding filled
+filled-within bytes out new n e =
+    let few : n ≤ length out = rw (ap (λ (s : ℕ × List ℕ). s .0) e) (omega arith) in
+    let long : length new ≡ length out = ap (λ (s : ℕ × List ℕ). length (s .1)) e ∙ filled-long bytes out in
+    omega arith
+
 -- One byte more.
 filled-more : (bytes out : List ℕ) (byte : ℕ) → stored (filled bytes out) byte ≡ filled (bytes ++ (byte ∷ [])) out
 unfolding stored

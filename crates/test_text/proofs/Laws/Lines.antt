@@ -156,6 +156,7 @@ module _ (line : List ℕ) (start : ℕ) where
     | inr l ↦ rw (le-ltb _ _ l) h
   ]
 
+-- The second number behind the start, and the change that ends with the third.
 module _ (line : List ℕ) (start : ℕ) where
   abbrev one : Number
   one = numberFrom line start
@@ -163,9 +164,12 @@ module _ (line : List ℕ) (start : ℕ) where
   abbrev two : Number
   two = numberAfter line one
 
+  pub pair-after : start < length line → start < two .next
+  pair-after h = omega (arith, number-after line start h, number-from line (one .next) (number-within line start))
+
   pub change-after : start < length line → start < changeFrom line start .next
   unfolding changeFrom
-  change-after h = omega (arith, number-after line start h, number-from line (one .next) (number-within line start), number-from line (two .next) (number-within line (one .next)))
+  change-after h = omega (arith, pair-after h, number-from line (two .next) (number-within line (one .next)))
 
   pub change-within : changeFrom line start .next ≤ length line
   unfolding changeFrom
