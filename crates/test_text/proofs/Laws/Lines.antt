@@ -171,10 +171,6 @@ module _ (line : List ℕ) (start : ℕ) where
   unfolding changeFrom
   change-after h = omega (arith, pair-after h, number-from line (two .next) (number-within line (one .next)))
 
-  pub change-within : changeFrom line start .next ≤ length line
-  unfolding changeFrom
-  change-within = number-within line (two .next)
-
 -- The change of three numbers, each behind the one before.
 pub change-made : (line : List ℕ) (start : ℕ) (field index value : Number) → field ≡ numberFrom line start → index ≡ numberFrom line (field .next)
     → value ≡ numberFrom line (index .next) → changeOf field index value ≡ changeFrom line start
