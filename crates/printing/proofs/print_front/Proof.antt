@@ -1,6 +1,9 @@
 -- Right because the size is the answer just where the text has so many bytes.
 use borrow.Author.Needs.{needs}
+use Prim.Native.Nat.{_<_}
 use mathlib.Core.Path.{sym}
+use lib.ListN.{length}
+use native.Mathlib.Omega.{arith}
 use borrow.Author.Tests.{le-leb, lt-leb}
 use Rattle.printing.specs.Printed.{front}
 use Rattle.printing.proofs.print_front.Statement.{statement}
@@ -8,7 +11,7 @@ use Rattle.printing.proofs.print_front.Tie as tie
 
 returns : tie.Need-returns
 unfolding front
-returns c = sym (rw (lt-leb _ _ (c .if1 .taken)))
+returns c = let few : length (c .before .before .args .text .now) < c .before .before .args .size = omega (arith, c .if1 .taken) in sym (rw (lt-leb _ _ few))
 
 sub-write-all : tie.Need-sub-write-all
 sub-write-all c = search needs
