@@ -94,3 +94,26 @@ module _ (line : List ℕ) where
     | inl q ↦ rw (words-from from r w, words-end r (omega arith), eq-eqb r (length line) q)
     | inr l ↦ rw (words-from from r w, ne-eqb r (length line) (λ q. absurd (omega arith)), drop-cons line r 0 l, not-true (isBlank (getD line r 0)) (w .marked l), begun (getD line r 0) (parts isBlank (drop (suc r) line)))
   ]
+
+  -- A line without words from an index on, and the first of those that there are.
+  pub no-words : (from : ℕ) → none (wordsOf (drop from line)) ≡ true → wordsOf (drop from line) ≡ []
+  unfolding none
+  no-words from e = go (wordsOf (drop from line)) e
+    where
+      go : (ws : List (List ℕ)) → none ws ≡ true → ws ≡ []
+      go [] e = refl
+      go (w ∷ ws) e = absurd (true≢false (sym e))
+
+  module _ (from start end : ℕ) (w : NextWord line from start end) where
+    pub word-begins : none (wordsOf (drop from line)) ≡ false → start < end
+    unfolding none
+    word-begins e = elim (eq-or-lt-of-le {n = start} {m = end} (w .ordered)) [
+      | inl q ↦ absurd (true≢false (rw (w .words, eq-eqb start end q) at e))
+      | inr l ↦ l
+    ]
+
+    pub word-first : (start ≡ end → ⊥) → wordsOf (drop from line) ≡ take (end - start) (drop start line) ∷ wordsOf (drop end line)
+    word-first n = w .words ∙ rw (ne-eqb start end n)
+
+    pub word-none : start ≡ end → wordsOf (drop from line) ≡ []
+    word-none q = w .words ∙ rw (eq-eqb start end q)
