@@ -2,3 +2,4 @@
 pub mod Operands
 pub mod Arrivals
 pub mod Requests
+pub mod Forms

@@ -1,6 +1,6 @@
 -- What a line asks for, by its words.
 use Prim.Native.Nat.{ℕ, _+_}
-use mathlib.Core.Bool.{Bool, true, false, cond, not, _&&_, _||_}
+use mathlib.Core.Bool.{Bool, true, false, cond, not, _&&_}
 use mathlib.Core.List.{List, [], _∷_}
 use lib.Dec.{eqb}
 use lib.ListN.{length, getD, drop, set, replicate}
@@ -89,6 +89,7 @@ countsOf (word ∷ words) counts named =
 unfoldable pub arrivalsOf : List (List ℕ) → Bool × List ℕ
 arrivalsOf words = countsOf words (replicate 64 0) (replicate 64 false)
 
+-- A slot whose words give these arrivals.
 unfoldable pub slotWith : ℕ → Bool × List ℕ → Asked
 slotWith t (true, counts) = record { line = Makes (Slot t); arrivals = counts }
 slotWith t (false, counts) = alone Malformed

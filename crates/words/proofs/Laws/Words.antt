@@ -12,7 +12,7 @@ use native.Mathlib.Nat.{eq-or-lt-of-le}
 use native.Mathlib.Decide.{decLt}
 use native.Mathlib.Numerals.{add-one}
 use native.Mathlib.Omega.{arith}
-use Rattle.words.specs.Parts.{onto, parts, Reaches}
+use Rattle.words.specs.Parts.{onto, parts, firstPart, Reaches}
 use Rattle.words.specs.Words.{isBlank, isLetter, nonempty, wordsOf, none, NextWord}
 use Rattle.words.proofs.Laws.Parts.{parts-marked, parts-last}
 
@@ -27,6 +27,15 @@ begun : (c : ℕ) (ps : List (List ℕ)) → none (nonempty (onto c ps)) ≡ fal
 unfolding none nonempty onto
 begun c [] = refl
 begun c (p ∷ ps) = refl
+
+-- A line whose first byte is no blank begins with its first word.
+pub first-letter : (c : ℕ) (cs : List ℕ) → isBlank c ≡ false → getD (firstPart (wordsOf (c ∷ cs))) 0 0 ≡ c
+unfolding wordsOf nonempty parts onto firstPart
+first-letter c cs e = rw e (go (parts isBlank cs))
+  where
+    go : (ps : List (List ℕ)) → getD (firstPart (nonempty (onto c ps))) 0 0 ≡ c
+    go [] = refl
+    go (p ∷ ps) = refl
 
 module _ (line : List ℕ) where
   pub words-end : (r : ℕ) → length line ≤ r → wordsOf (drop r line) ≡ []
