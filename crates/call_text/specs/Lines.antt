@@ -8,7 +8,6 @@ use Rattle.text.specs.Letters.{letters}
 use Rattle.text.specs.Decimal.{valueOf, isNumber}
 use Rattle.words.specs.Parts.{is, before}
 use Rattle.words.specs.Words.{wordsOf, none, alike}
-use Rattle.site.specs.declared.Flow.{Flow}
 use Rattle.call_text.specs.declared.Call.the-variants.{Start, Slot, Admit, Release}
 use Rattle.call_text.specs.declared.Question.the-variants.{Sender, Cells, Bound, Plan, Schedule, Show}
 use Rattle.call_text.specs.declared.Line.{Line}

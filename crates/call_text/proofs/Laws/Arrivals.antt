@@ -1,15 +1,14 @@
 -- The words N=K of a slot, one by one.
-use Prim.Native.Nat.{ℕ, suc, _+_, _-_, _≤_, _<_}
+use Prim.Native.Nat.{ℕ, _+_, _-_, _≤_}
 use mathlib.Core.Path.{_≡_, refl, sym, _∙_, ap}
-use mathlib.Core.Bool.{Bool, true, false, cond, not, _&&_, true≢false, and-false}
+use mathlib.Core.Bool.{Bool, true, false, cond, not, true≢false, and-false}
 use mathlib.Core.List.{List, [], _∷_}
 use lib.ListN.{length, getD, take, drop, set, replicate, length-take, length-drop, length-set, drop-of-length-le}
 use lib.Seq.{take-all}
-use borrow.Author.Tests.{ne-eqb, not-true, not-false}
-use native.Mathlib.Nat.{sub-zero}
+use borrow.Author.Tests.{not-true, not-false}
 use native.Mathlib.Omega.{arith}
 use Rattle.text.specs.Decimal.{valueOf, isNumber, given}
-use Rattle.words.specs.Parts.{is, before, Reaches}
+use Rattle.words.specs.Parts.{is, Reaches}
 use Rattle.words.specs.Words.{wordsOf, none, NextWord}
 use Rattle.words.proofs.Laws.Parts.{before-reached}
 use Rattle.words.proofs.Laws.Words.{no-words, word-begins, word-first}
