@@ -1,8 +1,8 @@
 -- Text taken apart by a scan that stops at the first marked byte.
-use Prim.Native.Nat.{ℕ, zero, suc, _+_, _-_, _≤_, _<_, min}
+use Prim.Native.Nat.{ℕ, zero, suc, _+_, _-_, _≤_, _<_}
 use mathlib.Core.Path.{_≡_, refl, sym, _∙_, ap}
-use mathlib.Core.Bool.{Bool, true, false, cond}
-use mathlib.Core.List.{List, [], _∷_}
+use mathlib.Core.Bool.{Bool, true, false, not, _&&_, true≢false}
+use mathlib.Core.List.{List, [], _∷_, _++_, append-nil}
 use lib.ListN.{length, getD, take, drop, drop-of-length-le}
 use lib.Seq.{drop-cons}
 use native.Mathlib.Nat.{eq-or-lt-of-le, add-zero}
@@ -66,3 +66,32 @@ module _ (mark : ℕ → Bool) (text : List ℕ) (from : ℕ) where
     | inl q ↦ rw (parts-last r w l (omega arith))
     | inr m ↦ rw (parts-marked r w l m)
   ]
+
+-- No byte of a text is marked.
+unfoldable pub unmarked : (ℕ → Bool) → List ℕ → Bool
+unmarked mark [] = true
+unmarked mark (c ∷ cs) = not (mark c) && unmarked mark cs
+
+module _ (mark : ℕ → Bool) where
+  unmarked-split : (x : ℕ) (xs : List ℕ) → unmarked mark (x ∷ xs) ≡ true → (mark x ≡ false) × (unmarked mark xs ≡ true)
+  unfolding unmarked
+  unmarked-split x xs u = go (mark x) u
+    where
+      go : (b : Bool) → (not b && unmarked mark xs) ≡ true → (b ≡ false) × (unmarked mark xs ≡ true)
+      go true u = absurd (true≢false (sym u))
+      go false u = (refl, u)
+
+  pub unmarked-append : (xs ys : List ℕ) → unmarked mark xs ≡ true → unmarked mark ys ≡ true → unmarked mark (xs ++ ys) ≡ true
+  unfolding unmarked
+  unmarked-append [] ys u v = v
+  unmarked-append (x ∷ xs) ys u v = let w = unmarked-split x xs u in rw (w .0) (unmarked-append xs ys (w .1) v)
+
+  -- Such a text is the first part of a longer one that goes on at a marked byte, and the only part of itself.
+  pub unmarked-first : (xs ys : List ℕ) (ps : List (List ℕ)) → unmarked mark xs ≡ true → parts mark ys ≡ [] ∷ ps → parts mark (xs ++ ys) ≡ xs ∷ ps
+  unfolding parts onto
+  unmarked-first [] ys ps u e = e
+  unmarked-first (x ∷ xs) ys ps u e = let w = unmarked-split x xs u in rw (w .0, unmarked-first xs ys ps (w .1) e)
+
+  pub before-unmarked : (xs : List ℕ) → unmarked mark xs ≡ true → before mark xs ≡ xs
+  unfolding before firstPart parts
+  before-unmarked xs u = rw (rw append-nil at (unmarked-first xs [] [] u refl))

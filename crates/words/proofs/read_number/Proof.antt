@@ -37,7 +37,7 @@ add-value c = omega (arith, c .before .before .before .before .loop .inv .small)
 returns-3 : tie.Need-returns-3 Inv-loop μ-loop
 returns-3 c =
     no-number _ _
-    (large-value _ _ _ _ (c .before .before .before .before .before .loop .inv) (c .before .before .before .before .loop-test .taken) (c .if3 .taken))
+    (large-value _ _ _ _ (c .before .before .before .before .before .loop .inv) (c .before .before .before .before .loop-test .taken) (omega (arith, c .if3 .taken)))
 
 add-i : tie.Need-add-i Inv-loop μ-loop
 add-i c = search needs
@@ -48,7 +48,7 @@ loop-less c = search needs
 loop-again : tie.Need-loop-again Inv-loop μ-loop
 loop-again c =
     reads-more _ _ _ _ (c .before .before .before .before .before .loop .inv) (c .before .before .before .before .loop-test .taken) (c .before .before .if1 .left)
-    (c .before .if2 .left) (c .if3 .left)
+    (c .before .if2 .left) (omega (arith, c .if3 .left))
 
 cast-t15 : tie.Need-cast-t15 Inv-loop μ-loop
 cast-t15 c = omega (arith, c .before .loop .inv .small)
