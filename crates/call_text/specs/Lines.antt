@@ -24,9 +24,9 @@ numbers [] words = none words
 numbers (most ∷ limits) [] = false
 numbers (most ∷ limits) (word ∷ words) = isNumber word most && numbers limits words
 
--- The number that the word at an index says.
-unfoldable pub nth : List (List ℕ) → ℕ → ℕ
-nth words i = valueOf (getD words i [])
+-- The number that the word at index i says.
+unfoldable pub said : List (List ℕ) → ℕ → ℕ
+said words i = valueOf (getD words i [])
 
 -- A line of one word.
 unfoldable pub loneOf : List ℕ → Line
@@ -41,23 +41,23 @@ loneOf name =
 unfoldable pub admitOf : List (List ℕ) → Line
 admitOf words =
     cond (numbers (255 ∷ 255 ∷ 255 ∷ 65535 ∷ []) words)
-    (Makes (Admit (record { number = nth words 0; entry = nth words 1; rate = nth words 2; deadline = nth words 3 })))
+    (Makes (Admit (record { number = said words 0; entry = said words 1; rate = said words 2; deadline = said words 3 })))
     Malformed
 
 -- release NUMBER.
 unfoldable pub releaseOf : List (List ℕ) → Line
-releaseOf words = cond (numbers (255 ∷ []) words) (Makes (Release (nth words 0))) Malformed
+releaseOf words = cond (numbers (255 ∷ []) words) (Makes (Release (said words 0))) Malformed
 
 -- sender PARENT T.
 unfoldable pub senderOf : List (List ℕ) → Line
-senderOf words = cond (numbers (255 ∷ 4294967295 ∷ []) words) (Asks (Sender (nth words 0) (nth words 1))) Malformed
+senderOf words = cond (numbers (255 ∷ 4294967295 ∷ []) words) (Asks (Sender (said words 0) (said words 1))) Malformed
 
 -- cells NUMBER and bound NUMBER.
 unfoldable pub flowOf : List ℕ → List (List ℕ) → Line
 flowOf name words =
     cond (numbers (63 ∷ []) words)
-    (cond (alike name (letters "cells")) (Asks (Cells (nth words 0)))
-    (cond (alike name (letters "bound")) (Asks (Bound (nth words 0)))
+    (cond (alike name (letters "cells")) (Asks (Cells (said words 0)))
+    (cond (alike name (letters "bound")) (Asks (Bound (said words 0)))
     Malformed))
     Malformed
 

@@ -11,10 +11,24 @@ use Rattle.text.specs.Decimal.{valueOf, isNumber, given}
 use Rattle.words.specs.Parts.{is, Reaches}
 use Rattle.words.specs.Words.{wordsOf, none, NextWord}
 use Rattle.words.proofs.Laws.Parts.{before-reached}
-use Rattle.words.proofs.Laws.Words.{no-words, word-begins, word-first}
+use Rattle.words.proofs.Laws.Words.{no-words, word-begins, first-word}
 use Rattle.words.proofs.Laws.Numbers.{number-small}
 use Rattle.call_text.specs.Lines.{flowPart, countPart, isNew, putCount, putName, countsOf, arrivalsOf}
 use Rattle.call_text.specs.Inner.{takenOf}
+
+-- What the reading of a number tells.
+abbrev Number : List ℕ → ℕ → Bool → ℕ → Type 0
+Number word most g v = (g ≡ isNumber word most) × (v ≡ cond (isNumber word most) (valueOf word) 0)
+
+module _ (word : List ℕ) (most : ℕ) (g : Bool) (v : ℕ) (read : Number word most g v) where
+  number-is : not g ≡ false → isNumber word most ≡ true
+  number-is n = sym (read .0) ∙ not-false g n
+
+  number-value : not g ≡ false → v ≡ valueOf word
+  number-value n = read .1 ∙ rw (number-is n)
+
+  pub number-most : not g ≡ false → v ≤ most
+  number-most n = omega (arith, number-value n, number-small word most (number-is n))
 
 -- The parts of a word in which the first `=` stands at index r.
 module _ (word : List ℕ) (r : ℕ) (w : Reaches (is 61) word 0 r) where
@@ -31,10 +45,13 @@ module _ (word : List ℕ) (r : ℕ) (w : Reaches (is 61) word 0 r) where
   count-part : countPart word ≡ take (length word - (r + 1)) (drop (r + 1) word)
   count-part = count-from ∙ sym (take-all (length word - (r + 1)) (drop (r + 1) word) (rw (length-drop (r + 1) word) (omega arith)))
 
--- What the reading of a number tells.
-abbrev Number : List ℕ → ℕ → Bool → ℕ → Type 0
-Number word most g v = (g ≡ isNumber word most) × (v ≡ cond (isNumber word most) (valueOf word) 0)
+  pub flow-read : (g : Bool) (n : ℕ) → Number (take (r - 0) (drop 0 word)) 63 g n → Number (flowPart word) 63 g n
+  flow-read g n read = rw flow-part read
 
+  pub count-read : (g : Bool) (k : ℕ) → Number (take (length word - (r + 1)) (drop (r + 1) word)) 65535 g k → Number (countPart word) 65535 g k
+  count-read g k read = rw count-part read
+
+-- What is answered of a word, and what it leaves.
 module _ (word counts : List ℕ) (named : List Bool) where
   old-word : isNew word named ≡ false → (false, counts, named) ≡ takenOf word counts named
   unfolding takenOf
@@ -47,46 +64,28 @@ module _ (word counts : List ℕ) (named : List Bool) where
       let behind : countPart word ≡ [] = count-from word r w ∙ drop-of-length-le word {i = r + 1} (omega arith) in
       old-word (rw (behind, and-false (isNumber (flowPart word) 63)))
 
-  module _ (r : ℕ) (w : Reaches (is 61) word 0 r) (g : Bool) (n : ℕ) (flow : Number (take (r - 0) (drop 0 word)) 63 g n) where
-    flow-is : g ≡ isNumber (flowPart word) 63
-    flow-is = rw (flow-part word r w) (flow .0)
-
+  module _ (g : Bool) (n : ℕ) (flow : Number (flowPart word) 63 g n) where
     pub taken-no-flow : not g ≡ true → (false, counts, named) ≡ takenOf word counts named
     unfolding isNew
-    taken-no-flow e = old-word (rw (sym flow-is ∙ not-true g e))
+    taken-no-flow e = old-word (rw (sym (flow .0) ∙ not-true g e))
 
-    flow-value : not g ≡ false → n ≡ valueOf (flowPart word)
-    flow-value e = flow .1 ∙ rw (flow-part word r w, sym (flow .0) ∙ not-false g e)
-
-    pub flow-small : not g ≡ false → n ≤ 63
-    flow-small e = omega (arith, flow-value e, number-small (flowPart word) 63 (sym flow-is ∙ not-false g e))
-
-    module _ (h : Bool) (k : ℕ) (count : Number (take (length word - (r + 1)) (drop (r + 1) word)) 65535 h k) where
-      count-is : h ≡ isNumber (countPart word) 65535
-      count-is = rw (count-part word r w) (count .0)
-
+    module _ (h : Bool) (k : ℕ) (count : Number (countPart word) 65535 h k) where
       pub taken-no-count : not h ≡ true → (false, counts, named) ≡ takenOf word counts named
       unfolding isNew
-      taken-no-count e = old-word (rw (sym count-is ∙ not-true h e, and-false (isNumber (flowPart word) 63)))
-
-      count-value : not h ≡ false → k ≡ valueOf (countPart word)
-      count-value e = count .1 ∙ rw (count-part word r w, sym (count .0) ∙ not-false h e)
-
-      pub count-small : not h ≡ false → k ≤ 65535
-      count-small e = omega (arith, count-value e, number-small (countPart word) 65535 (sym count-is ∙ not-false h e))
+      taken-no-count e = old-word (rw (sym (count .0) ∙ not-true h e, and-false (isNumber (flowPart word) 63)))
 
       new-word : not g ≡ false → not h ≡ false → isNew word named ≡ not (getD named n false)
       unfolding isNew
-      new-word e f = rw (sym flow-is ∙ not-false g e, sym count-is ∙ not-false h f, flow-value e)
+      new-word e f = rw (number-is _ _ _ _ flow e, number-is _ _ _ _ count f, number-value _ _ _ _ flow e)
 
       pub taken-again : not g ≡ false → not h ≡ false → getD named n false ≡ true → (false, counts, named) ≡ takenOf word counts named
       taken-again e f t = old-word (new-word e f ∙ ap not t)
 
       pub taken-first : not g ≡ false → not h ≡ false → getD named n false ≡ false → (true, set counts n k, set named n true) ≡ takenOf word counts named
       unfolding takenOf putCount putName
-      taken-first e f t = rw (new-word e f ∙ ap not t, flow-value e, count-value f)
+      taken-first e f t = rw (new-word e f ∙ ap not t, number-value _ _ _ _ flow e, number-value _ _ _ _ count f)
 
--- What the answer of a word tells of it, and of what it left.
+-- What such an answer tells of the word.
 abbrev Taken : Type 0
 Taken = Bool × List ℕ × List Bool
 
@@ -127,7 +126,7 @@ module _ (line : List ℕ) (from : ℕ) where
     module _ (start end : ℕ) (w : NextWord line at start end) (there : none (wordsOf (drop at line)) ≡ false) (new : Bool) (counts′ : List ℕ) (named′ : List Bool)
         (taken : (new, counts′, named′) ≡ takenOf (take (end - start) (drop start line)) counts named) where
       first : wordsOf (drop at line) ≡ take (end - start) (drop start line) ∷ wordsOf (drop end line)
-      first = word-first line at start end w (λ q. absurd (omega (arith, word-begins line at start end w there)))
+      first = first-word line at start end w (λ q. absurd (omega (arith, word-begins line at start end w there)))
 
       pub reading-stopped : not new ≡ true → (false, replicate 64 0) ≡ arrivalsOf (wordsOf (drop from line))
       unfolding countsOf

@@ -3,22 +3,26 @@ use Prim.Native.Nat.{ℕ, zero, suc, _≤_, _<_}
 use mathlib.Core.Path.{_≡_, refl, sym, _∙_, ap}
 use mathlib.Core.Bool.{Bool, true, false, cond, not, _&&_, true≢false}
 use mathlib.Core.List.{List, [], _∷_, _++_}
-use lib.Dec.{eqb, leb}
+use lib.Dec.{eqb}
 use lib.ListN.{length, getD, replicate, length-set, getD-replicate}
 use lib.Seq.{drop-append-add, getD-set-same, getD-set-other}
-use borrow.Author.Tests.{ne-eqb, leb-true}
+use borrow.Author.Tests.{ne-eqb}
 use native.Mathlib.Omega.{arith}
 use Rattle.text.specs.Letters.{letters}
-use Rattle.text.specs.Decimal.{decimal, valueOf, isDigit, allDigits, isNumber}
-use Rattle.text.proofs.Laws.Decimal.{decimal-value, decimal-digits}
-use Rattle.words.specs.Parts.{onto, parts, firstPart, before, is}
+use Rattle.text.specs.Decimal.{decimal, valueOf, given, isNumber}
+use Rattle.text.specs.Put.{textOf}
+use Rattle.text.specs.Listed.{each, spacedDecimal}
+use Rattle.text.proofs.Laws.Decimal.{decimal-value, decimal-number}
+use Rattle.words.specs.Parts.{parts, firstPart, before, is}
 use Rattle.words.specs.Words.{isBlank, wordsOf, none, alike}
 use Rattle.words.proofs.Laws.Words.{first-letter}
-use Rattle.words.proofs.Laws.Numbers.{decimal-number, number-small}
+use Rattle.words.proofs.Laws.Numbers.{number-small}
+use Rattle.words.proofs.Laws.Parts.{unmarked, unmarked-first}
+use Rattle.words.proofs.Laws.Spaced.{unmarked-decimal, words-spaced}
 use Rattle.call_text.specs.declared.Call.the-variants.{Slot, Admit}
 use Rattle.call_text.specs.declared.Line.the-variants.{Makes}
 use Rattle.call_text.specs.declared.Asked.{Asked}
-use Rattle.call_text.specs.Lines.{alone, numbers, nth, admitOf, flowPart, countPart, isNew, putCount, putName, countsOf, arrivalsOf, slotWith, slotOf, otherOf, requestOf, askedOf}
+use Rattle.call_text.specs.Lines.{alone, numbers, said, admitOf, flowPart, countPart, isNew, putCount, putName, countsOf, arrivalsOf, slotWith, slotOf, otherOf, requestOf, askedOf}
 
 -- A line asks for what its words ask for, unless the first of them begins with `#`.
 pub by-words : (line name : List ℕ) (words : List (List ℕ)) → wordsOf line ≡ name ∷ words → (getD name 0 0 ≡ 35 → ⊥) → askedOf line ≡ requestOf (name ∷ words)
@@ -33,10 +37,18 @@ by-words line name words e n = rw (ne-eqb (getD line 0 0) 35 (λ q. n (begins li
 pub admit-line : (line : List ℕ) (number entry rate deadline : ℕ) → number ≤ 255 → entry ≤ 255 → rate ≤ 255 → deadline ≤ 65535
     → wordsOf line ≡ letters "admit" ∷ decimal number ∷ decimal entry ∷ decimal rate ∷ decimal deadline ∷ []
     → askedOf line ≡ alone (Makes (Admit (record { number = number; entry = entry; rate = rate; deadline = deadline })))
-unfolding requestOf otherOf admitOf alike none numbers nth
+unfolding requestOf otherOf admitOf alike none numbers said
 admit-line line number entry rate deadline n e r d ws =
     by-words line _ _ ws (λ q. absurd (omega arith))
     ∙ rw (decimal-number number 255 n, decimal-number entry 255 e, decimal-number rate 255 r, decimal-number deadline 65535 d, decimal-value number, decimal-value entry, decimal-value rate, decimal-value deadline)
+
+-- So does such a line as it is typed, with one space before each number.
+pub admit-typed : (number entry rate deadline : ℕ) → number ≤ 255 → entry ≤ 255 → rate ≤ 255 → deadline ≤ 65535
+    → askedOf (letters "admit" ++ textOf (each spacedDecimal (number ∷ entry ∷ rate ∷ deadline ∷ [])))
+    ≡ alone (Makes (Admit (record { number = number; entry = entry; rate = rate; deadline = deadline })))
+unfolding given unmarked isBlank
+admit-typed number entry rate deadline n e r d =
+    admit-line _ number entry rate deadline n e r d (words-spaced (letters "admit") (number ∷ entry ∷ rate ∷ deadline ∷ []) refl refl)
 
 -- The word slot, a number and words that give arrivals ask for that slot.
 pub slot-line : (line counts : List ℕ) (t : ℕ) (words : List (List ℕ)) → t ≤ 4294967295 → arrivalsOf words ≡ (true, counts)
@@ -45,27 +57,12 @@ unfolding requestOf slotOf slotWith alike
 slot-line line counts t words l a ws = by-words line _ _ ws (λ q. absurd (omega arith)) ∙ rw (decimal-number t 4294967295 l, decimal-value t, a)
 
 -- The parts of a word that is written as N=K; 61 is the byte of `=`.
-first-onto : (c : ℕ) (ps : List (List ℕ)) → firstPart (onto c ps) ≡ c ∷ firstPart ps
-unfolding firstPart onto
-first-onto c [] = refl
-first-onto c (p ∷ ps) = refl
-
-before-sign : (digits behind : List ℕ) → allDigits digits ≡ true → before (is 61) (digits ++ 61 ∷ behind) ≡ digits
-unfolding before parts firstPart allDigits isDigit
-before-sign [] behind e = refl
-before-sign (c ∷ cs) behind e = go (leb 48 c) (leb c 57) refl e (before-sign cs behind)
-  where
-    go : (a b : Bool) → leb c 57 ≡ b → (a && b && allDigits cs) ≡ true → (allDigits cs ≡ true → before (is 61) (cs ++ 61 ∷ behind) ≡ cs)
-        → firstPart (cond (eqb c 61) ([] ∷ parts (is 61) (cs ++ 61 ∷ behind)) (onto c (parts (is 61) (cs ++ 61 ∷ behind)))) ≡ c ∷ cs
-    go true true q e more =
-        rw (ne-eqb c 61 (λ s. absurd (omega (arith, leb-true c 57 q))), first-onto c (parts (is 61) (cs ++ 61 ∷ behind))) (ap (λ (ds : List ℕ). c ∷ ds) (more e))
-    go true false q e more = absurd (true≢false (sym e))
-    go false b q e more = absurd (true≢false (sym e))
-
 module _ (n k : ℕ) where
   pub written-flow : flowPart (decimal n ++ 61 ∷ decimal k) ≡ decimal n
-  unfolding flowPart
-  written-flow = before-sign (decimal n) (decimal k) (decimal-digits n)
+  unfolding flowPart before firstPart parts
+  written-flow =
+      let plain : unmarked (is 61) (decimal n) ≡ true = unmarked-decimal (is 61) (λ c a b. ne-eqb c 61 (λ e. absurd (omega arith))) n in
+      rw (unmarked-first (is 61) (decimal n) (61 ∷ decimal k) (parts (is 61) (decimal k)) plain refl)
 
   pub written-count : countPart (decimal n ++ 61 ∷ decimal k) ≡ decimal k
   unfolding countPart
@@ -157,7 +154,7 @@ module _ (words : List (List ℕ)) (all : List ℕ) (given : arrivalsOf words �
   unfolding arrivalsOf
   arrivals-unnamed n l unnamed = uncounted all words (replicate 64 0) (replicate 64 false) given n unnamed ∙ getD-replicate 64 n 0 0 l
 
--- Every line brings 64 arrivals.
+-- All that gives arrivals gives 64.
 counts-long : (words : List (List ℕ)) (counts : List ℕ) (named : List Bool) → length counts ≡ 64 → length (countsOf words counts named .1) ≡ 64
 unfolding countsOf putCount
 counts-long [] counts named e = e
@@ -187,6 +184,7 @@ unfolding requestOf alone
 request-long [] = refl
 request-long (name ∷ words) = either-long (alike name (letters "slot")) _ _ (slot-long words) refl
 
+-- Every line brings 64 arrivals.
 pub slot-arrivals : (line : List ℕ) → length (askedOf line .arrivals) ≡ 64
 unfolding askedOf alone
 slot-arrivals line = either-long (eqb (getD line 0 0) 35) _ _ refl (request-long (wordsOf line))

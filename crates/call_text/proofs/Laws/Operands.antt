@@ -12,12 +12,12 @@ use Rattle.text.specs.Letters.{letters}
 use Rattle.call_text.specs.declared.Call.the-variants.{Admit, Release}
 use Rattle.call_text.specs.declared.Question.the-variants.{Sender, Cells, Bound}
 use Rattle.call_text.specs.declared.Line.the-variants.{Makes, Asks, Malformed}
-use Rattle.call_text.specs.Lines.{numbers, nth, admitOf, releaseOf, senderOf, flowOf}
+use Rattle.call_text.specs.Lines.{numbers, said, admitOf, releaseOf, senderOf, flowOf}
 
 -- The words are numbers within these limits just when b is true, and then they say `values`.
 pub record Said (limits : List ℕ) (words : List (List ℕ)) (b : Bool) (values : List ℕ) : Type 0 where
   pub fits : numbers limits words ≡ b
-  pub says : b ≡ true → (i : ℕ) → i < length values → nth words i ≡ getD values i 0
+  pub says : b ≡ true → (i : ℕ) → i < length values → said words i ≡ getD values i 0
 
 -- An operand that is read first: with the words behind it, it settles whether all are numbers, and which.
 abbrev Read : Type 0
@@ -45,21 +45,21 @@ module _ (most : ℕ) (g : Bool) (v : ℕ) (rest : List (List ℕ)) where
       go false e = sym (ap (λ (x : Read). numbers (next ∷ limits) (x .2)) e)
 
   first-says : (words : List (List ℕ)) → (g, v, rest) ≡ operandOf words most → (limits : List ℕ) → numbers (most ∷ limits) words ≡ true
-      → (nth words 0 ≡ v) × ((i : ℕ) → nth words (suc i) ≡ nth rest i)
-  unfolding numbers operandOf nth
+      → (said words 0 ≡ v) × ((i : ℕ) → said words (suc i) ≡ said rest i)
+  unfolding numbers operandOf said
   first-says [] e limits n = absurd (true≢false (sym n))
   first-says (word ∷ words) e limits n = go (isNumber word most) e n
     where
       go : (t : Bool) → _≡_ {A = Read} (g, v, rest) (cond t (true, valueOf word, words) (false, 0, [])) → (t && numbers limits words) ≡ true
-          → (valueOf word ≡ v) × ((i : ℕ) → nth words i ≡ nth rest i)
-      go true e n = (sym (ap (λ (x : Read). x .1) e), λ i. sym (ap (λ (x : Read). nth (x .2) i) e))
+          → (valueOf word ≡ v) × ((i : ℕ) → said words i ≡ said rest i)
+      go true e n = (sym (ap (λ (x : Read). x .1) e), λ i. sym (ap (λ (x : Read). said (x .2) i) e))
       go false e n = absurd (true≢false (sym n))
 
   pub said-last : (words : List (List ℕ)) → (g, v, rest) ≡ operandOf words most → (b : Bool) → b ≡ (g && none rest) → Said (most ∷ []) words b (v ∷ [])
   unfolding numbers
   said-last words e b d = record { fits = first-fits words e [] ∙ sym d; says = λ t i l. go t i l }
     where
-      go : b ≡ true → (i : ℕ) → i < 1 → nth words i ≡ getD (v ∷ []) i 0
+      go : b ≡ true → (i : ℕ) → i < 1 → said words i ≡ getD (v ∷ []) i 0
       go t zero l = first-says words e [] (first-fits words e [] ∙ sym d ∙ t) .0
       go t (suc i) l = absurd (omega arith)
 
@@ -70,7 +70,7 @@ module _ (most : ℕ) (g : Bool) (v : ℕ) (rest : List (List ℕ)) where
       fit : numbers (most ∷ next ∷ limits) words ≡ b
       fit = first-then words e next limits ∙ s .fits
 
-      go : b ≡ true → (i : ℕ) → i < suc (length values) → nth words i ≡ getD (v ∷ values) i 0
+      go : b ≡ true → (i : ℕ) → i < suc (length values) → said words i ≡ getD (v ∷ values) i 0
       go t zero l = first-says words e (next ∷ limits) (fit ∙ t) .0
       go t (suc i) l = first-says words e (next ∷ limits) (fit ∙ t) .1 i ∙ s .says t i (omega arith)
 

@@ -9,7 +9,7 @@ use borrow.Author.Tests.{not-true, not-false}
 use Rattle.text.specs.Letters.{letters}
 use Rattle.text.specs.Decimal.{valueOf, isNumber}
 use Rattle.words.specs.Words.{wordsOf, alike, operandOf, NextWord}
-use Rattle.words.proofs.Laws.Words.{word-first, word-none}
+use Rattle.words.proofs.Laws.Words.{first-word, no-word}
 use Rattle.call_text.specs.declared.Call.the-variants.{Slot}
 use Rattle.call_text.specs.declared.Line.the-variants.{PassedOver, Makes, Malformed}
 use Rattle.call_text.specs.declared.Asked.{Asked}
@@ -62,13 +62,13 @@ module _ (line : List ℕ) where
   module _ (start end : ℕ) (remark : eqb (getD line 0 0) 35 ≡ false) (w : NextWord line 0 start end) where
     pub asked-nothing : start ≡ end → alone PassedOver ≡ askedOf line
     unfolding askedOf requestOf
-    asked-nothing q = rw (remark, word-none line 0 start end w q)
+    asked-nothing q = rw (remark, no-word line 0 start end w q)
 
     pub asked-slot : (start ≡ end → ⊥) → alike (take (end - start) (drop start line)) (letters "slot") ≡ true → slotOf (wordsOf (drop end line)) ≡ askedOf line
     unfolding askedOf requestOf
-    asked-slot n e = rw (remark, word-first line 0 start end w n, e)
+    asked-slot n e = rw (remark, first-word line 0 start end w n, e)
 
     pub asked-other : (start ≡ end → ⊥) → alike (take (end - start) (drop start line)) (letters "slot") ≡ false
         → alone (otherOf (take (end - start) (drop start line)) (wordsOf (drop end line))) ≡ askedOf line
     unfolding askedOf requestOf
-    asked-other n e = rw (remark, word-first line 0 start end w n, e)
+    asked-other n e = rw (remark, first-word line 0 start end w n, e)

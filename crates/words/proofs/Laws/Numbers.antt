@@ -9,8 +9,7 @@ use lib.Seq.{drop-cons}
 use borrow.Author.Tests.{eqb-true, le-leb, lt-leb, leb-true, lt-ltb, not-true, not-false}
 use native.Mathlib.Numerals.{add-one}
 use native.Mathlib.Omega.{arith}
-use Rattle.text.specs.Decimal.{decimal, valueFrom, valueOf, isDigit, allDigits, given, isNumber}
-use Rattle.text.proofs.Laws.Decimal.{decimal-value, decimal-digits, decimal-long}
+use Rattle.text.specs.Decimal.{valueFrom, valueOf, isDigit, allDigits, given, isNumber}
 use Rattle.words.specs.Words.{wordsOf, operandOf, NextWord}
 use Rattle.words.proofs.Laws.Words.{words-end}
 
@@ -55,15 +54,6 @@ number-small word most e = go (given word) (allDigits word) e
     go true true e = leb-true _ _ e
     go true false e = absurd (true≢false (sym e))
     go false d e = absurd (true≢false (sym e))
-
--- The digits of a number within the limit are such a word.
-pub decimal-number : (n most : ℕ) → n ≤ most → isNumber (decimal n) most ≡ true
-unfolding isNumber given
-decimal-number n most l = rw (decimal-digits n, decimal-value n, le-leb n most l) (go (decimal n) (decimal-long n))
-  where
-    go : (word : List ℕ) → 1 ≤ length word → (given word && true && true) ≡ true
-    go [] l = absurd (omega arith)
-    go (c ∷ cs) l = refl
 
 module _ (word : List ℕ) (most : ℕ) where
   pub reads-start : Reads word most 0 0

@@ -121,8 +121,8 @@ module _ (line : List ℕ) where
       | inr l ↦ l
     ]
 
-    pub word-first : (start ≡ end → ⊥) → wordsOf (drop from line) ≡ take (end - start) (drop start line) ∷ wordsOf (drop end line)
-    word-first n = w .words ∙ rw (ne-eqb start end n)
+    pub first-word : (start ≡ end → ⊥) → wordsOf (drop from line) ≡ take (end - start) (drop start line) ∷ wordsOf (drop end line)
+    first-word n = w .words ∙ rw (ne-eqb start end n)
 
-    pub word-none : start ≡ end → wordsOf (drop from line) ≡ []
-    word-none q = w .words ∙ rw (eq-eqb start end q)
+    pub no-word : start ≡ end → wordsOf (drop from line) ≡ []
+    no-word q = w .words ∙ rw (eq-eqb start end q)
