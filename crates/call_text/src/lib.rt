@@ -248,7 +248,7 @@ fn other_line(name: &[u8], line: &[u8], from: usize) -> Line
     flow_line(name, line, from)
 }
 
-// Reads a line.
+// What the line asks for. Its first word names it; without a word, or with `#` as its first byte, the line is passed over.
 pub fn read_line(line: &[u8]) -> Asked
     ensures { λ r. ⌜ r ≡ askedOf (now (line .entry)) ⌝ }
 {

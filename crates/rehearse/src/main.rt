@@ -81,7 +81,7 @@ fn show(site: Site) {
     }
 }
 
-// Puts the answer to a question that takes one line; answers how many bytes it has.
+// Puts the answer to a question that takes one line; answers how many bytes it has. For `show`, which prints several, it puts nothing.
 fn put_answer(out: &mut [u8], question: Question, site: Site, counters: &[u32]) -> usize {
     match question {
         Question::Sender(parent, slot) => {

@@ -20,7 +20,13 @@ complete-requires : tie.Need-complete-requires
 complete-requires c κs = search needs
 
 returns : tie.Need-returns
-returns c = admit-malformed _ _ _ (said-then _ _ _ _ _ (c .before .before .before .before .before .next-operand .ensures .0) _ _ _ _ (said-then _ _ _ _ _ (c .before .before .before .before .next-operand2 .ensures .0) _ _ _ _ (said-then _ _ _ _ _ (c .before .before .before .next-operand3 .ensures .0) _ _ _ _ (said-last _ _ _ _ _ (c .before .before .next-operand4 .ensures .0) _ (c .before .complete .ensures))))) (c .if1 .taken)
+returns c =
+    admit-malformed _ _ _
+    (said-then _ _ _ _ _ (c .before .before .before .before .before .next-operand .ensures .0) _ _ _ _
+    (said-then _ _ _ _ _ (c .before .before .before .before .next-operand2 .ensures .0) _ _ _ _
+    (said-then _ _ _ _ _ (c .before .before .before .next-operand3 .ensures .0) _ _ _ _
+    (said-last _ _ _ _ _ (c .before .before .next-operand4 .ensures .0) _ (c .before .complete .ensures)))))
+    (c .if1 .taken)
 
 cast-t9 : tie.Need-cast-t9
 cast-t9 c = search needs
@@ -35,7 +41,13 @@ cast-t12 : tie.Need-cast-t12
 cast-t12 c = search needs
 
 returns-2 : tie.Need-returns-2
-returns-2 c = admit-made _ _ _ _ _ _ (said-then _ _ _ _ _ (c .before .before .before .before .before .before .before .before .before .next-operand .ensures .0) _ _ _ _ (said-then _ _ _ _ _ (c .before .before .before .before .before .before .before .before .next-operand2 .ensures .0) _ _ _ _ (said-then _ _ _ _ _ (c .before .before .before .before .before .before .before .next-operand3 .ensures .0) _ _ _ _ (said-last _ _ _ _ _ (c .before .before .before .before .before .before .next-operand4 .ensures .0) _ (c .before .before .before .before .before .complete .ensures))))) (c .before .before .before .before .if1 .left)
+returns-2 c =
+    admit-made _ _ _ _ _ _
+    (said-then _ _ _ _ _ (c .before .before .before .before .before .before .before .before .before .next-operand .ensures .0) _ _ _ _
+    (said-then _ _ _ _ _ (c .before .before .before .before .before .before .before .before .next-operand2 .ensures .0) _ _ _ _
+    (said-then _ _ _ _ _ (c .before .before .before .before .before .before .before .next-operand3 .ensures .0) _ _ _ _
+    (said-last _ _ _ _ _ (c .before .before .before .before .before .before .next-operand4 .ensures .0) _ (c .before .before .before .before .before .complete .ensures)))))
+    (c .before .before .before .before .if1 .left)
 
 pub admit-line-spec : {M : Type 1} → statement M
 admit-line-spec =

@@ -24,7 +24,9 @@ same-requires : tie.Need-same-requires
 same-requires c κs = search needs
 
 returns-2 : tie.Need-returns-2
-returns-2 c = cells-asked _ _ _ _ (said-last _ _ _ _ _ (c .before .before .before .before .before .before .next-operand .ensures .0) _ (c .before .before .before .before .before .complete .ensures)) (c .before .before .before .before .if1 .left) (sym (c .before .same .ensures) ∙ c .if2 .taken)
+returns-2 c =
+    cells-asked _ _ _ _ (said-last _ _ _ _ _ (c .before .before .before .before .before .before .next-operand .ensures .0) _ (c .before .before .before .before .before .complete .ensures))
+    (c .before .before .before .before .if1 .left) (sym (c .before .same .ensures) ∙ c .if2 .taken)
 
 slice-aggregate-same-2 : tie.Need-slice-aggregate-same-2
 slice-aggregate-same-2 c = search needs
@@ -33,10 +35,14 @@ same-requires-2 : tie.Need-same-requires-2
 same-requires-2 c κs = search needs
 
 returns-3 : tie.Need-returns-3
-returns-3 c = bound-asked _ _ _ _ (said-last _ _ _ _ _ (c .before .before .before .before .before .before .before .before .before .next-operand .ensures .0) _ (c .before .before .before .before .before .before .before .before .complete .ensures)) (c .before .before .before .before .before .before .before .if1 .left) (sym (c .before .before .before .before .same .ensures) ∙ c .before .before .before .if2 .left) (sym (c .before .same2 .ensures) ∙ c .if3 .taken)
+returns-3 c =
+    bound-asked _ _ _ _ (said-last _ _ _ _ _ (c .before .before .before .before .before .before .before .before .before .next-operand .ensures .0) _ (c .before .before .before .before .before .before .before .before .complete .ensures))
+    (c .before .before .before .before .before .before .before .if1 .left) (sym (c .before .before .before .before .same .ensures) ∙ c .before .before .before .if2 .left) (sym (c .before .same2 .ensures) ∙ c .if3 .taken)
 
 returns-4 : tie.Need-returns-4
-returns-4 c = neither-asked _ _ _ _ (said-last _ _ _ _ _ (c .before .before .before .before .before .before .before .before .before .next-operand .ensures .0) _ (c .before .before .before .before .before .before .before .before .complete .ensures)) (c .before .before .before .before .before .before .before .if1 .left) (sym (c .before .before .before .before .same .ensures) ∙ c .before .before .before .if2 .left) (sym (c .before .same2 .ensures) ∙ c .if3 .left)
+returns-4 c =
+    neither-asked _ _ _ _ (said-last _ _ _ _ _ (c .before .before .before .before .before .before .before .before .before .next-operand .ensures .0) _ (c .before .before .before .before .before .before .before .before .complete .ensures))
+    (c .before .before .before .before .before .before .before .if1 .left) (sym (c .before .before .before .before .same .ensures) ∙ c .before .before .before .if2 .left) (sym (c .before .same2 .ensures) ∙ c .if3 .left)
 
 pub flow-line-spec : {M : Type 1} → statement M
 flow-line-spec =

@@ -39,7 +39,12 @@ release-line-requires c κs = search needs
 
 returns-3 : tie.Need-returns-3
 unfolding otherOf
-returns-3 c = rw (sym (c .before .before .before .before .before .before .before .before .blank .ensures) ∙ c .before .before .before .before .before .before .before .if1 .left, sym (c .before .before .before .before .before .same .ensures) ∙ c .before .before .before .before .if2 .left, sym (c .before .before .same2 .ensures) ∙ c .before .if3 .taken) (c .release-line .ensures)
+returns-3 c =
+    rw (
+      sym (c .before .before .before .before .before .before .before .before .blank .ensures) ∙ c .before .before .before .before .before .before .before .if1 .left,
+      sym (c .before .before .before .before .before .same .ensures) ∙ c .before .before .before .before .if2 .left,
+      sym (c .before .before .same2 .ensures) ∙ c .before .if3 .taken,
+    ) (c .release-line .ensures)
 
 slice-aggregate-same-3 : tie.Need-slice-aggregate-same-3
 slice-aggregate-same-3 c = search needs
@@ -52,14 +57,26 @@ sender-line-requires c κs = search needs
 
 returns-4 : tie.Need-returns-4
 unfolding otherOf
-returns-4 c = rw (sym (c .before .before .before .before .before .before .before .before .before .before .before .blank .ensures) ∙ c .before .before .before .before .before .before .before .before .before .before .if1 .left, sym (c .before .before .before .before .before .before .before .before .same .ensures) ∙ c .before .before .before .before .before .before .before .if2 .left, sym (c .before .before .before .before .before .same2 .ensures) ∙ c .before .before .before .before .if3 .left, sym (c .before .before .same3 .ensures) ∙ c .before .if4 .taken) (c .sender-line .ensures)
+returns-4 c =
+    rw (
+      sym (c .before .before .before .before .before .before .before .before .before .before .before .blank .ensures) ∙ c .before .before .before .before .before .before .before .before .before .before .if1 .left,
+      sym (c .before .before .before .before .before .before .before .before .same .ensures) ∙ c .before .before .before .before .before .before .before .if2 .left,
+      sym (c .before .before .before .before .before .same2 .ensures) ∙ c .before .before .before .before .if3 .left,
+      sym (c .before .before .same3 .ensures) ∙ c .before .if4 .taken,
+    ) (c .sender-line .ensures)
 
 flow-line-requires : tie.Need-flow-line-requires
 flow-line-requires c κs = search needs
 
 returns-5 : tie.Need-returns-5
 unfolding otherOf
-returns-5 c = rw (sym (c .before .before .before .before .before .before .before .before .before .before .before .blank .ensures) ∙ c .before .before .before .before .before .before .before .before .before .before .if1 .left, sym (c .before .before .before .before .before .before .before .before .same .ensures) ∙ c .before .before .before .before .before .before .before .if2 .left, sym (c .before .before .before .before .before .same2 .ensures) ∙ c .before .before .before .before .if3 .left, sym (c .before .before .same3 .ensures) ∙ c .before .if4 .left) (c .flow-line .ensures)
+returns-5 c =
+    rw (
+      sym (c .before .before .before .before .before .before .before .before .before .before .before .blank .ensures) ∙ c .before .before .before .before .before .before .before .before .before .before .if1 .left,
+      sym (c .before .before .before .before .before .before .before .before .same .ensures) ∙ c .before .before .before .before .before .before .before .if2 .left,
+      sym (c .before .before .before .before .before .same2 .ensures) ∙ c .before .before .before .before .if3 .left,
+      sym (c .before .before .same3 .ensures) ∙ c .before .if4 .left,
+    ) (c .flow-line .ensures)
 
 pub other-line-spec : {M : Type 1} → statement M
 other-line-spec =

@@ -22,7 +22,9 @@ without-arrivals-requires-2 : tie.Need-without-arrivals-requires-2
 without-arrivals-requires-2 c κs = search needs
 
 returns-2 : tie.Need-returns-2
-returns-2 c = c .without-arrivals2 .ensures ∙ asked-nothing _ _ _ (sym (c .before .before .before .before .remark .ensures) ∙ c .before .before .before .if1 .left) (c .before .before .next-word .ensures) (c .before .if2 .taken)
+returns-2 c =
+    c .without-arrivals2 .ensures
+    ∙ asked-nothing _ _ _ (sym (c .before .before .before .before .remark .ensures) ∙ c .before .before .before .if1 .left) (c .before .before .next-word .ensures) (c .before .if2 .taken)
 
 sub-name : tie.Need-sub-name
 sub-name c = search needs
@@ -43,7 +45,10 @@ slot-line-requires : tie.Need-slot-line-requires
 slot-line-requires c κs = search needs
 
 returns-3 : tie.Need-returns-3
-returns-3 c = c .slot-line .ensures ∙ asked-slot _ _ _ (sym (c .before .before .before .before .before .before .before .before .remark .ensures) ∙ c .before .before .before .before .before .before .before .if1 .left) (c .before .before .before .before .before .before .next-word .ensures) (c .before .before .before .before .before .if2 .left) (sym (c .before .before .same .ensures) ∙ c .before .if3 .taken)
+returns-3 c =
+    c .slot-line .ensures
+    ∙ asked-slot _ _ _ (sym (c .before .before .before .before .before .before .before .before .remark .ensures) ∙ c .before .before .before .before .before .before .before .if1 .left)
+    (c .before .before .before .before .before .before .next-word .ensures) (c .before .before .before .before .before .if2 .left) (sym (c .before .before .same .ensures) ∙ c .before .if3 .taken)
 
 other-line-requires : tie.Need-other-line-requires
 other-line-requires c κs = search needs
@@ -52,7 +57,11 @@ without-arrivals-requires-3 : tie.Need-without-arrivals-requires-3
 without-arrivals-requires-3 c κs = search needs
 
 returns-4 : tie.Need-returns-4
-returns-4 c = c .without-arrivals3 .ensures ∙ ap alone (c .before .other-line .ensures) ∙ asked-other _ _ _ (sym (c .before .before .before .before .before .before .before .before .before .remark .ensures) ∙ c .before .before .before .before .before .before .before .before .if1 .left) (c .before .before .before .before .before .before .before .next-word .ensures) (c .before .before .before .before .before .before .if2 .left) (sym (c .before .before .before .same .ensures) ∙ c .before .before .if3 .left)
+returns-4 c =
+    c .without-arrivals3 .ensures
+    ∙ ap alone (c .before .other-line .ensures)
+    ∙ asked-other _ _ _ (sym (c .before .before .before .before .before .before .before .before .before .remark .ensures) ∙ c .before .before .before .before .before .before .before .before .if1 .left)
+    (c .before .before .before .before .before .before .before .next-word .ensures) (c .before .before .before .before .before .before .if2 .left) (sym (c .before .before .before .same .ensures) ∙ c .before .before .if3 .left)
 
 pub read-line-spec : {M : Type 1} → statement M
 read-line-spec =

@@ -14,13 +14,19 @@ complete-requires : tie.Need-complete-requires
 complete-requires c κs = search needs
 
 returns : tie.Need-returns
-returns c = sender-malformed _ _ _ (said-then _ _ _ _ _ (c .before .before .before .next-operand .ensures .0) _ _ _ _ (said-last _ _ _ _ _ (c .before .before .next-operand2 .ensures .0) _ (c .before .complete .ensures))) (c .if1 .taken)
+returns c =
+    sender-malformed _ _ _
+    (said-then _ _ _ _ _ (c .before .before .before .next-operand .ensures .0) _ _ _ _ (said-last _ _ _ _ _ (c .before .before .next-operand2 .ensures .0) _ (c .before .complete .ensures)))
+    (c .if1 .taken)
 
 cast-t7 : tie.Need-cast-t7
 cast-t7 c = search needs
 
 returns-2 : tie.Need-returns-2
-returns-2 c = sender-asked _ _ _ _ (said-then _ _ _ _ _ (c .before .before .before .before .next-operand .ensures .0) _ _ _ _ (said-last _ _ _ _ _ (c .before .before .before .next-operand2 .ensures .0) _ (c .before .before .complete .ensures))) (c .before .if1 .left)
+returns-2 c =
+    sender-asked _ _ _ _
+    (said-then _ _ _ _ _ (c .before .before .before .before .next-operand .ensures .0) _ _ _ _ (said-last _ _ _ _ _ (c .before .before .before .next-operand2 .ensures .0) _ (c .before .before .complete .ensures)))
+    (c .before .if1 .left)
 
 pub sender-line-spec : {M : Type 1} → statement M
 sender-line-spec =

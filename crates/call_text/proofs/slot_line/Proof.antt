@@ -21,10 +21,13 @@ without-arrivals-requires-2 : tie.Need-without-arrivals-requires-2
 without-arrivals-requires-2 c κs = search needs
 
 returns-2 : tie.Need-returns-2
-returns-2 c = c .without-arrivals2 .ensures ∙ slot-refused _ _ _ _ (c .before .before .before .before .before .before .next-operand .ensures .0) (c .before .before .before .before .if1 .left) _ _ (c .before .before .before .read-arrivals .ensures) (c .before .if2 .taken)
+returns-2 c =
+    c .without-arrivals2 .ensures
+    ∙ slot-refused _ _ _ _ (c .before .before .before .before .before .before .next-operand .ensures .0) (c .before .before .before .before .if1 .left) _ _ (c .before .before .before .read-arrivals .ensures) (c .before .if2 .taken)
 
 returns-3 : tie.Need-returns-3
-returns-3 c = slot-made _ _ _ _ (c .before .before .before .before .before .before .next-operand .ensures .0) (c .before .before .before .before .if1 .left) _ _ (c .before .before .before .read-arrivals .ensures) (c .before .if2 .left)
+returns-3 c =
+    slot-made _ _ _ _ (c .before .before .before .before .before .before .next-operand .ensures .0) (c .before .before .before .before .if1 .left) _ _ (c .before .before .before .read-arrivals .ensures) (c .before .if2 .left)
 
 pub slot-line-spec : {M : Type 1} → statement M
 slot-line-spec =
