@@ -46,7 +46,7 @@ too-large word most l = go (given word) (allDigits word)
     go true false = refl
     go false d = refl
 
-number-small : (word : List ℕ) (most : ℕ) → isNumber word most ≡ true → valueOf word ≤ most
+pub number-small : (word : List ℕ) (most : ℕ) → isNumber word most ≡ true → valueOf word ≤ most
 unfolding isNumber
 number-small word most e = go (given word) (allDigits word) e
   where

@@ -15,7 +15,7 @@ use Rattle.words.proofs.Laws.Parts.{unmarked, unmarked-append, unmarked
 
 -- Where no digit is marked, no byte of a number is; where a space is not either, none of such numbers.
 module _ (mark : ℕ → Bool) (digit : (c : ℕ) → 48 ≤ c → c ≤ 57 → mark c ≡ false) where
-  unmarked-decimal : (n : ℕ) → unmarked mark (decimal n) ≡ true
+  pub unmarked-decimal : (n : ℕ) → unmarked mark (decimal n) ≡ true
   unfolding unmarked
   unmarked-decimal = by-digits (λ (n : ℕ). unmarked mark (decimal n) ≡ true)
       (λ n l. rw (decimal-one n l, digit (48 + n) (omega arith) (omega arith)))

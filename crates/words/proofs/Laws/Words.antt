@@ -1,9 +1,9 @@
 -- The words that stand in a line from an index on.
 use Prim.Native.Nat.{ℕ, zero, suc, _+_, _-_, _≤_, _<_}
-use mathlib.Core.Path.{_≡_, refl, sym, _∙_, ap}
-use mathlib.Core.Bool.{Bool, true, false, cond, true≢false}
+use mathlib.Core.Path.{_≡_, refl, sym, _∙_}
+use mathlib.Core.Bool.{true, false, true≢false}
 use mathlib.Core.List.{List, [], _∷_}
-use mathlib.Core.Logic.{_⊎_, inl, inr}
+use mathlib.Core.Logic.{inl, inr}
 use lib.Dec.{eqb}
 use lib.ListN.{length, getD, take, drop, drop-of-length-le, length-drop}
 use lib.Seq.{drop-cons}
@@ -12,7 +12,7 @@ use native.Mathlib.Nat.{eq-or-lt-of-le}
 use native.Mathlib.Decide.{decLt}
 use native.Mathlib.Numerals.{add-one}
 use native.Mathlib.Omega.{arith}
-use Rattle.words.specs.Parts.{onto, parts, Reaches}
+use Rattle.words.specs.Parts.{onto, parts, firstPart, Reaches}
 use Rattle.words.specs.Words.{isBlank, isLetter, nonempty, wordsOf, none, NextWord}
 use Rattle.words.proofs.Laws.Parts.{parts-marked, parts-last}
 
@@ -27,6 +27,15 @@ begun : (c : ℕ) (ps : List (List ℕ)) → none (nonempty (onto c ps)) ≡ fal
 unfolding none nonempty onto
 begun c [] = refl
 begun c (p ∷ ps) = refl
+
+-- A line whose first byte is no blank begins with its first word.
+pub first-letter : (c : ℕ) (cs : List ℕ) → isBlank c ≡ false → getD (firstPart (wordsOf (c ∷ cs))) 0 0 ≡ c
+unfolding wordsOf nonempty parts onto firstPart
+first-letter c cs e = rw e (go (parts isBlank cs))
+  where
+    go : (ps : List (List ℕ)) → getD (firstPart (nonempty (onto c ps))) 0 0 ≡ c
+    go [] = refl
+    go (p ∷ ps) = refl
 
 module _ (line : List ℕ) where
   pub words-end : (r : ℕ) → length line ≤ r → wordsOf (drop r line) ≡ []
@@ -94,3 +103,26 @@ module _ (line : List ℕ) where
     | inl q ↦ rw (words-from from r w, words-end r (omega arith), eq-eqb r (length line) q)
     | inr l ↦ rw (words-from from r w, ne-eqb r (length line) (λ q. absurd (omega arith)), drop-cons line r 0 l, not-true (isBlank (getD line r 0)) (w .marked l), begun (getD line r 0) (parts isBlank (drop (suc r) line)))
   ]
+
+  -- A line without words from an index on, and the first of those that there are.
+  pub no-words : (from : ℕ) → none (wordsOf (drop from line)) ≡ true → wordsOf (drop from line) ≡ []
+  unfolding none
+  no-words from e = go (wordsOf (drop from line)) e
+    where
+      go : (ws : List (List ℕ)) → none ws ≡ true → ws ≡ []
+      go [] e = refl
+      go (w ∷ ws) e = absurd (true≢false (sym e))
+
+  module _ (from start end : ℕ) (w : NextWord line from start end) where
+    pub word-begins : none (wordsOf (drop from line)) ≡ false → start < end
+    unfolding none
+    word-begins e = elim (eq-or-lt-of-le {n = start} {m = end} (w .ordered)) [
+      | inl q ↦ absurd (true≢false (rw (w .words, eq-eqb start end q) at e))
+      | inr l ↦ l
+    ]
+
+    pub first-word : (start ≡ end → ⊥) → wordsOf (drop from line) ≡ take (end - start) (drop start line) ∷ wordsOf (drop end line)
+    first-word n = w .words ∙ rw (ne-eqb start end n)
+
+    pub no-word : start ≡ end → wordsOf (drop from line) ≡ []
+    no-word q = w .words ∙ rw (eq-eqb start end q)
