@@ -7,9 +7,9 @@ use lib.ListN.{length, getD, drop, set, replicate}
 use Rattle.text.specs.Letters.{letters}
 use Rattle.text.specs.Decimal.{valueOf, isNumber}
 use Rattle.words.specs.Parts.{is, before}
-use Rattle.words.specs.Words.{wordsOf, none, alike}
+use Rattle.words.specs.Words.{wordsOf, none, alike, said}
 use Rattle.call_text.specs.declared.Call.the-variants.{Start, Slot, Admit, Release}
-use Rattle.call_text.specs.declared.Question.the-variants.{Sender, Cells, Bound, Plan, Schedule, Show}
+use Rattle.call_text.specs.declared.Question.the-variants.{Sender, Cells, Bound, Plan, Schedule, Show, Typed}
 use Rattle.call_text.specs.declared.Line.{Line}
 use Rattle.call_text.specs.declared.Line.the-variants.{PassedOver, Makes, Asks, Malformed}
 use Rattle.call_text.specs.declared.Asked.{Asked}
@@ -24,10 +24,6 @@ numbers [] words = none words
 numbers (most ∷ limits) [] = false
 numbers (most ∷ limits) (word ∷ words) = isNumber word most && numbers limits words
 
--- The number that the word at index i says.
-unfoldable pub said : List (List ℕ) → ℕ → ℕ
-said words i = valueOf (getD words i [])
-
 -- A line of one word.
 unfoldable pub loneOf : List ℕ → Line
 loneOf name =
@@ -35,7 +31,8 @@ loneOf name =
     (cond (alike name (letters "plan")) (Asks Plan)
     (cond (alike name (letters "schedule")) (Asks Schedule)
     (cond (alike name (letters "show")) (Asks Show)
-    Malformed)))
+    (cond (alike name (letters "typed")) (Asks Typed)
+    Malformed))))
 
 -- admit NUMBER NODE RATE DEADLINE.
 unfoldable pub admitOf : List (List ℕ) → Line

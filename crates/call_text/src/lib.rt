@@ -31,6 +31,7 @@ pub enum Question {
     Plan,
     Schedule,
     Show,
+    Typed,
 }
 
 // A line that is not passed over makes a call, asks a question or is malformed.
@@ -97,6 +98,9 @@ fn lone_line(name: &[u8]) -> Line
     }
     if same(name, b"show") {
         return Line::Asks(Question::Show);
+    }
+    if same(name, b"typed") {
+        return Line::Asks(Question::Typed);
     }
     Line::Malformed
 }

@@ -16,9 +16,7 @@ struct Rehearsal {
 
 // Prints the first n bytes, if there are so many, and the end of the line.
 fn print_line(line: &[u8], n: usize) {
-    if n <= line.len() {
-        io::write_all(1, &line[0..n]);
-    }
+    printing::print_front(line, n);
     io::write_all(1, b"\n");
 }
 
@@ -50,38 +48,30 @@ fn called(call: Call, arrivals: &[u16], site: Site, counters: &mut [u32]) -> Sit
     site
 }
 
-fn print_written(written: Written, text: &[u8]) {
-    match written {
-        Written::Length(n) => {
-            if n <= text.len() {
-                io::write_all(1, &text[0..n]);
-            }
-        }
-        Written::Refused(_, _) => {}
+// What `slotplan` prints of a plan, or its lines as `listing` prints them.
+fn print_plan(bytes: &[u8], typed: bool) {
+    if typed {
+        printing::print_listing(bytes);
+        return;
     }
+    printing::print_report(bytes);
 }
 
-fn print_report(bytes: &[u8]) {
-    let mut text = [0u8; 8192];
-    let written = report::report(bytes, &mut text);
-    print_written(written, &text);
-}
-
-// What `slotplan` prints of the site's plan, which takes at most 763 bytes.
-fn show(site: Site) {
+// Shows the site by its plan, which takes at most 763 bytes.
+fn show(site: Site, typed: bool) {
     let mut bytes = [0u8; 763];
     let written = writer::write_plan(site, &mut bytes);
     match written {
         Written::Length(n) => {
             if n <= 763 {
-                print_report(&bytes[0..n]);
+                print_plan(&bytes[0..n], typed);
             }
         }
         Written::Refused(_, _) => {}
     }
 }
 
-// Puts the answer to a question that takes one line; answers how many bytes it has. For `show`, which prints several, it puts nothing.
+// Puts the answer to a question that takes one line; answers how many bytes it has. For those that take several it puts nothing.
 fn put_answer(out: &mut [u8], question: Question, site: Site, counters: &[u32]) -> usize {
     match question {
         Question::Sender(parent, slot) => {
@@ -93,13 +83,15 @@ fn put_answer(out: &mut [u8], question: Question, site: Site, counters: &[u32]) 
         Question::Plan => call_answers::put_plan(out, 0, site),
         Question::Schedule => call_answers::put_schedule(out, 0, site),
         Question::Show => 0,
+        Question::Typed => 0,
     }
 }
 
 // The bytes of the longest plan take 2,288 bytes in hexadecimal.
 fn print_answer(question: Question, site: Site, counters: &[u32]) {
     match question {
-        Question::Show => show(site),
+        Question::Show => show(site, false),
+        Question::Typed => show(site, true),
         _ => {
             let mut line = [0u8; 4096];
             let n = put_answer(&mut line, question, site, counters);
@@ -202,9 +194,7 @@ fn rehearse_plan(bytes: &[u8]) {
 fn print_counts(site: Site) {
     let mut line = [0u8; 64];
     let n = report::put_counts(&mut line, 0, site);
-    if n <= 64 {
-        io::write_all(1, &line[0..n]);
-    }
+    printing::print_front(&line, n);
 }
 
 fn tell_unopened(path: &[u8]) {

@@ -3,11 +3,10 @@ use Prim.Native.Nat.{ℕ, _+_}
 use mathlib.Core.Bool.{Bool, cond}
 use mathlib.Core.List.{List, [], _∷_}
 use lib.Dec.{eqb}
-use lib.ListN.{getD}
 use Rattle.text.specs.Letters.{letters}
-use Rattle.text.specs.Decimal.{valueOf, isNumber}
+use Rattle.text.specs.Decimal.{isNumber}
 use Rattle.words.specs.Parts.{is, before}
-use Rattle.words.specs.Words.{wordsOf, alike}
+use Rattle.words.specs.Words.{wordsOf, alike, said}
 use Rattle.typed_plan.specs.declared.Typed.{Typed}
 use Rattle.typed_plan.specs.declared.Typed.the-variants.{Nothing, Node, Flow, Bad}
 
@@ -18,10 +17,6 @@ wrong [] [] k = 0
 wrong [] (w ∷ ws) k = k
 wrong (m ∷ ms) [] k = k
 wrong (m ∷ ms) (w ∷ ws) k = cond (isNumber w m) (wrong ms ws (k + 1)) k
-
--- The number that the word at index i says.
-unfoldable pub said : List (List ℕ) → ℕ → ℕ
-said words i = valueOf (getD words i [])
 
 -- 01, command 01: each operand of a NODE has to fit its width, and nothing else is judged here; the same of command 02, FLOW.
 abbrev pub nodeLimits : List ℕ

@@ -4,7 +4,7 @@ use mathlib.Core.Path.{_≡_}
 use mathlib.Core.Bool.{Bool, true, false, cond, not, _&&_, _||_}
 use mathlib.Core.List.{List, [], _∷_}
 use lib.Dec.{eqb}
-use lib.ListN.{length, take, drop}
+use lib.ListN.{length, getD, take, drop}
 use Rattle.text.specs.Decimal.{valueOf, isNumber}
 use Rattle.words.specs.Parts.{parts}
 
@@ -40,6 +40,10 @@ alike (c ∷ cs) (d ∷ ds) = eqb c d && alike cs ds
 unfoldable pub operandOf : List (List ℕ) → ℕ → Bool × ℕ × List (List ℕ)
 operandOf [] most = (false, 0, [])
 operandOf (w ∷ ws) most = cond (isNumber w most) (true, valueOf w, ws) (false, 0, [])
+
+-- The number that the word at index i says.
+unfoldable pub said : List (List ℕ) → ℕ → ℕ
+said words i = valueOf (getD words i [])
 
 -- The first word of a line from index `from` on stands from `start` to `end`, which are equal where there is none.
 pub record NextWord (line : List ℕ) (from start end : ℕ) : Type 0 where

@@ -14,7 +14,7 @@ use Rattle.text.specs.Put.{textOf}
 use Rattle.text.specs.Listed.{each, spacedDecimal}
 use Rattle.text.proofs.Laws.Decimal.{decimal-value, decimal-number}
 use Rattle.words.specs.Parts.{parts, firstPart, before, is}
-use Rattle.words.specs.Words.{isBlank, wordsOf, none, alike}
+use Rattle.words.specs.Words.{isBlank, wordsOf, none, alike, said}
 use Rattle.words.proofs.Laws.Words.{first-letter}
 use Rattle.words.proofs.Laws.Numbers.{number-small}
 use Rattle.words.proofs.Laws.Parts.{unmarked, unmarked-first}
@@ -22,7 +22,7 @@ use Rattle.words.proofs.Laws.Spaced.{unmarked-decimal, words-spaced}
 use Rattle.call_text.specs.declared.Call.the-variants.{Slot, Admit}
 use Rattle.call_text.specs.declared.Line.the-variants.{Makes}
 use Rattle.call_text.specs.declared.Asked.{Asked}
-use Rattle.call_text.specs.Lines.{alone, numbers, said, admitOf, flowPart, countPart, isNew, putCount, putName, countsOf, arrivalsOf, slotWith, slotOf, otherOf, requestOf, askedOf}
+use Rattle.call_text.specs.Lines.{alone, numbers, admitOf, flowPart, countPart, isNew, putCount, putName, countsOf, arrivalsOf, slotWith, slotOf, otherOf, requestOf, askedOf}
 
 -- A line asks for what its words ask for, unless the first of them begins with `#`.
 pub by-words : (line name : List ℕ) (words : List (List ℕ)) → wordsOf line ≡ name ∷ words → (getD name 0 0 ≡ 35 → ⊥) → askedOf line ≡ requestOf (name ∷ words)

@@ -7,12 +7,12 @@ use lib.ListN.{length, getD}
 use borrow.Author.Tests.{not-true, not-false}
 use native.Mathlib.Omega.{arith}
 use Rattle.text.specs.Decimal.{valueOf, isNumber}
-use Rattle.words.specs.Words.{none, alike, operandOf}
+use Rattle.words.specs.Words.{none, alike, operandOf, said}
 use Rattle.text.specs.Letters.{letters}
 use Rattle.call_text.specs.declared.Call.the-variants.{Admit, Release}
 use Rattle.call_text.specs.declared.Question.the-variants.{Sender, Cells, Bound}
 use Rattle.call_text.specs.declared.Line.the-variants.{Makes, Asks, Malformed}
-use Rattle.call_text.specs.Lines.{numbers, said, admitOf, releaseOf, senderOf, flowOf}
+use Rattle.call_text.specs.Lines.{numbers, admitOf, releaseOf, senderOf, flowOf}
 
 -- The words are numbers within these limits just when b is true, and then they say `values`.
 pub record Said (limits : List ℕ) (words : List (List ℕ)) (b : Bool) (values : List ℕ) : Type 0 where

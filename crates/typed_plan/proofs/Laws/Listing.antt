@@ -23,7 +23,7 @@ use Rattle.text.specs.Put.{textOf}
 use Rattle.text.proofs.Laws.Decimal.{decimal-value, decimal-number}
 use Rattle.text.proofs.Laws.Put.{text-joined}
 use Rattle.words.specs.Parts.{parts, firstPart, before, is, linesOf}
-use Rattle.words.specs.Words.{isBlank, nonempty, wordsOf, alike}
+use Rattle.words.specs.Words.{isBlank, nonempty, wordsOf, alike, said}
 use Rattle.words.proofs.Laws.Parts.{unmarked, unmarked-append, unmarked-first, before-unmarked}
 use Rattle.words.proofs.Laws.Spaced.{unmarked-spaced, words-spaced}
 use Rattle.report.specs.Listing.{nodeText, nodeTyped, typedFlow, flowTyped, flowTypedIf, siteTyped, listingLines, listingOf}
@@ -31,7 +31,7 @@ use Rattle.report.proofs.Laws.Short.{flow-at, read-sound}
 use Rattle.typed_plan.specs.declared.Typed.{Typed}
 use Rattle.typed_plan.specs.declared.Typed.the-variants.{Node, Flow}
 use Rattle.typed_plan.specs.declared.Assembled.{Assembled}
-use Rattle.typed_plan.specs.Lines.{wrong, said, commandOf, typedLine}
+use Rattle.typed_plan.specs.Lines.{wrong, commandOf, typedLine}
 use Rattle.typed_plan.specs.Assemble.{pieceOf, piecesOf, planTyped, wrongOr, firstWrong}
 use Rattle.typed_plan.proofs.Laws.Operands.{node-right, flow-right}
 

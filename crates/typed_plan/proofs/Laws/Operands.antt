@@ -10,10 +10,10 @@ use native.Mathlib.Nat.{zero-add}
 use native.Mathlib.Omega.{arith}
 use Rattle.text.specs.Letters.{letters}
 use Rattle.text.specs.Decimal.{valueOf, isNumber}
-use Rattle.words.specs.Words.{wordsOf, none, alike, operandOf, NextWord}
+use Rattle.words.specs.Words.{wordsOf, none, alike, operandOf, NextWord, said}
 use Rattle.typed_plan.specs.declared.Typed.{Typed}
 use Rattle.typed_plan.specs.declared.Typed.the-variants.{Nothing, Node, Flow, Bad}
-use Rattle.typed_plan.specs.Lines.{wrong, said, nodeLimits, flowLimits, nodeLine, flowLine, commandOf}
+use Rattle.typed_plan.specs.Lines.{wrong, nodeLimits, flowLimits, nodeLine, flowLine, commandOf}
 
 -- The first j words are numbers within their limits: what is left decides whether a word is wrong, and says the other numbers.
 pub record Left (limits : List ℕ) (words : List (List ℕ)) (j : ℕ) (more : List ℕ) (rest : List (List ℕ)) : Type 0 where
