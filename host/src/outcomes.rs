@@ -116,6 +116,7 @@ pub const SESSIONS: &[Call] = &[
     call(["plan", "plan beginning "], &["01", "FF"], &[]),
     call(["schedule", "schedule beginning "], &["11", "FF"], &[]),
     call(["show", "show beginning "], &["link", "accepted"], &[]),
+    call(["typed", "typed beginning "], &["node"], &[]),
     call(["", ""], &["error"], &[]),
 ];
 
@@ -132,6 +133,7 @@ pub const SESSIONS_WITHOUT_LINKS: &[Call] = &[
     call(["plan", "plan "], &["FF"], &[]),
     call(["schedule", "schedule "], &["FF"], &[]),
     call(["show", "show "], &["accepted links 0 flows 0"], &[]),
+    call(["typed", "typed "], &[""], &[]),
     call(["", ""], &["error"], &[]),
 ];
 

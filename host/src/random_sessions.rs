@@ -283,7 +283,7 @@ impl Script<'_> {
         let site = &self.rehearsal.site;
         let flow = random_number(self.random, &site.live_flows(), &site.numbers_not_live());
         let flow = flow % FLOW_NUMBERS;
-        let line = match self.random.between(0, 15) {
+        let line = match self.random.between(0, 16) {
             0..=5 => format!("cells {flow}"),
             6..=8 => format!("bound {flow}"),
             9..=12 => {
@@ -294,6 +294,7 @@ impl Script<'_> {
             }
             13 => "plan".to_string(),
             14 => "schedule".to_string(),
+            15 => "typed".to_string(),
             _ => "show".to_string(),
         };
         self.add(line);

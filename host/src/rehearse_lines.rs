@@ -7,6 +7,7 @@ use crate::programs::{
 };
 use crate::rehearsal::Rehearsal;
 use crate::rules::{Flow, Site, FLOW_NUMBERS};
+use crate::typed::lines_of;
 use crate::words::{number_up_to, words};
 use std::path::Path;
 
@@ -49,7 +50,7 @@ pub fn rehearse(plan: Option<&[u8]>, input: &[u8]) -> (String, Option<Rehearsal>
     (output, rehearsal)
 }
 
-/// The answer with its newline, or nothing for a line that is passed over.
+/// The answer with its newline, or nothing for a line that is passed over and for the typed lines of a plan that has none.
 pub fn answer(rehearsal: &mut Rehearsal, line: &[u8]) -> String {
     if line.len() > LONGEST_LINE {
         return format!("{ERROR}\n");
@@ -62,6 +63,9 @@ pub fn answer(rehearsal: &mut Rehearsal, line: &[u8]) -> String {
     let words = words(&text);
     if words.is_empty() {
         return String::new();
+    }
+    if words == ["typed"] {
+        return lines_of(&rehearsal.site);
     }
     let answer = call(rehearsal, &words).unwrap_or(ERROR.to_string());
     format!("{answer}\n")

@@ -76,7 +76,8 @@ pub fn listing(plan: &[u8]) -> String {
     lines.unwrap_or_else(|refusal| format!("{}\n", refused(refusal)))
 }
 
-fn lines_of(site: &Site) -> String {
+/// A line for each node and each live flow.
+pub fn lines_of(site: &Site) -> String {
     let nodes = site.nodes().into_iter().map(|node| node - 1).map(|index| {
         let (parent, capacity) = (site.parents[index], site.capacities[index]);
         format!("node {parent} {capacity} {}\n", site.gaps[index])
