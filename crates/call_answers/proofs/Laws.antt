@@ -79,8 +79,10 @@ writing-shown p bytes out new o room e =
         → shown (cond b (refused 1 0, out) (accepted (length bytes), bytes ++ drop (length bytes) out)) ≡ hexText bytes
     wrote l true q = absurd (omega (arith, ltb-true (length out) (length bytes) q))
     wrote l false q =
-        rw (le-leb (length bytes) (length (bytes ++ drop (length bytes) out)) (omega (arith, length-append bytes (drop (length bytes) out))),
-        take-at bytes (drop (length bytes) out) (length bytes) refl)
+        rw (
+          le-leb (length bytes) (length (bytes ++ drop (length bytes) out)) (omega (arith, length-append bytes (drop (length bytes) out))),
+          take-at bytes (drop (length bytes) out) (length bytes) refl,
+        )
 
     go : (a : Bool) → (a ≡ true → length bytes ≤ length out)
         → shown (cond a (cond (ltb (length out) (length bytes)) (refused 1 0, out) (accepted (length bytes), bytes ++ drop (length bytes) out)) (refused 14 0, out))

@@ -80,7 +80,14 @@ fn put_value(out: &mut [u8], at: usize, field: usize, index: usize, value: u64) 
 }
 
 // The entry of a field, if it is another.
-fn put_entry(out: &mut [u8], at: usize, before: Site, after: Site, field: usize, index: usize) -> usize
+fn put_entry(
+    out: &mut [u8],
+    at: usize,
+    before: Site,
+    after: Site,
+    field: usize,
+    index: usize,
+) -> usize
     ensures { λ r. ⌜ (r, now (out .exit)) ≡ puts (at, now (out .entry)) (entryText before after field index) ⌝ }
 {
     let value = entry(after, field, index);
