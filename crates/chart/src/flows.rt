@@ -1,5 +1,6 @@
 // The table of the flows.
 use crate::page::print;
+use crate::page::print_stripes;
 use site::Site;
 use site::parent_of;
 ghost use mathlib.Core.Path.{_≡_};
@@ -54,17 +55,17 @@ fn put_route(out: &mut [u8], at: usize, parents: &[u8], entry: u8) -> usize
 }
 
 fn put_figures(out: &mut [u8], at: usize, rate: u8, bound: u32, deadline: u16) -> usize {
-    let rated = text::put_field(out, at, b"<text class=\"e\" x=\"400\">", rate as u64);
+    let rated = text::put_field(out, at, b"<text class=\"end\" x=\"440\">", rate as u64);
     let bounded = text::put_field(
         out,
         rated,
-        b"</text><text class=\"e\" x=\"490\">",
+        b"</text><text class=\"end\" x=\"530\">",
         bound as u64,
     );
     let due = text::put_field(
         out,
         bounded,
-        b"</text><text class=\"e\" x=\"610\">",
+        b"</text><text class=\"end\" x=\"650\">",
         deadline as u64,
     );
     text::put(out, due, b"</text>")
@@ -84,7 +85,7 @@ fn print_flow(site: Site, number: u8, y: u64)
     let named = text::put_field(
         &mut line,
         low,
-        b")\"><text class=\"e\" x=\"64\">",
+        b")\"><text class=\"end\" x=\"64\">",
         number as u64,
     );
     let left = text::put(&mut line, named, b"</text><text x=\"88\">");
@@ -107,27 +108,36 @@ fn print_flows(site: Site) {
     }
 }
 
+fn print_columns() {
+    io::write_all(
+        1,
+        b"<g class=\"grey\" font-size=\"10\"><text class=\"end\" x=\"64\" y=\"40\">flow</text><text x=\"88\" y=\"40\">route</text>\
+<text class=\"end\" x=\"440\" y=\"40\">rate</text><text class=\"end\" x=\"530\" y=\"40\">G in slots</text>\
+<text class=\"end\" x=\"650\" y=\"40\">deadline in slots</text></g>\n",
+    );
+}
+
 // The table at this height.
-pub(crate) fn print_table(site: Site, flows: u64, y: u64) {
+pub(crate) fn print_table(site: Site, flows: u64, y: u64)
+    requires { ⌜ flows ≤ 64 ⌝ }
+{
     let mut line = io::buffer();
     let low = text::put_field(&mut line, 0, b"<g id=\"flows\" transform=\"translate(0 ", y);
     let named = text::put(
         &mut line,
         low,
-        b")\">\n<text class=\"b\" x=\"24\" y=\"18\" font-size=\"14\">flows</text>\n",
+        b")\">\n<text class=\"bold\" x=\"24\" y=\"18\" font-size=\"14\">flows</text>\n",
     );
     print(&line, named);
     if flows == 0 {
         io::write_all(
             1,
-            b"<text class=\"g\" x=\"24\" y=\"40\">this plan has no flows</text></g>\n",
+            b"<text class=\"grey\" x=\"24\" y=\"40\">this plan has no flows</text>\n</g>\n",
         );
         return;
     }
-    io::write_all(
-        1,
-        b"<g class=\"g\" font-size=\"10\"><text class=\"e\" x=\"64\" y=\"40\">flow</text><text x=\"88\" y=\"40\">route</text><text class=\"e\" x=\"400\" y=\"40\">rate</text><text class=\"e\" x=\"490\" y=\"40\">G in slots</text><text class=\"e\" x=\"610\" y=\"40\">deadline in slots</text></g>\n",
-    );
+    print_stripes(636, 44, flows);
+    print_columns();
     print_flows(site);
     io::write_all(1, b"</g>\n");
 }

@@ -6,7 +6,6 @@ mod panels;
 mod refusals;
 mod rows;
 
-use page::print;
 use page::print_head;
 use page::print_tail;
 use schedule::Verdict;
@@ -14,11 +13,11 @@ use site::Site;
 
 // A plan without links has neither slots nor flows to show.
 fn print_wired() {
-    print_head(660, 80);
+    print_head(684, 80);
     io::write_all(
         1,
-        b"<text class=\"b\" x=\"24\" y=\"36\" font-size=\"20\">Slot plan</text>\n\
-<text id=\"wired\" x=\"24\" y=\"62\">this plan has no links: no slots are used and no flows are served</text>\n",
+        b"<text class=\"bold\" x=\"24\" y=\"36\" font-size=\"20\">Slot plan</text>\n\
+<text id=\"wired\" x=\"24\" y=\"62\" font-size=\"13\">this plan has no links, so there are no slots and no flows</text>\n",
     );
     print_tail();
 }

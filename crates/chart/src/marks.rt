@@ -18,7 +18,7 @@ fn longer(period: u16, longest: u16) -> u16
 }
 
 // The frame of a parent; 0 of one without children. From the last link down, since the definition has the first link outermost.
-pub(crate) fn frame(site: Site, parent: u8) -> u16
+pub(crate) fn frame_under(site: Site, parent: u8) -> u16
     ensures { λ r. ⌜ r ≡ frameOf site parent ⌝ }
 {
     let mut longest = 0;

@@ -1,47 +1,64 @@
-// What every picture begins and ends with. Lengths are in pixels.
+// What pictures have in common. Lengths are in pixels.
+ghost use Prim.Native.Nat.{_≤_};
 
-// Prints the first n bytes of a line, whose space has room for the longest.
+// Prints the first n bytes of a line. The longest, a row with 128 marks, has less than half of the 4,096 bytes of `io::buffer`.
 pub(crate) fn print(line: &[u8], n: usize) {
     if n <= line.len() {
         io::write_all(1, &line[0..n]);
     }
 }
 
-// The classes: b bold, g grey, n numbers of slots, e text that ends at its place; s slots in which a link sends, i idle ones; t the room of a bar, l a load,
-// h one close to the capacity; z every other row, c edges of slots, d those of the slots with a number.
 fn print_style() {
     io::write_all(
         1,
-        b"<style>.b{font-weight:bold}.g{fill:#69727d}.n{fill:#69727d;font-size:10px;text-anchor:middle}.e{text-anchor:end}\n\
-.s{stroke:#2b6ca3}.i{stroke:#e6cb8d}.t{fill:#dfe4e9}.l{fill:#7fa8c9}.h{fill:#c8504a}\n\
-.z{stroke:#f4f6f8}.c{stroke:#e3e7eb}.d{stroke:#bcc4cc}</style>\n",
+        b"<style>.bold{font-weight:bold}.grey{fill:#69727d}.end{text-anchor:end}.numbers{fill:#69727d;font-size:10px;text-anchor:middle}\n\
+.sends{stroke:#2b6ca3}.idle{stroke:#e6cb8d}.room{fill:#dfe4e9}.load{fill:#7fa8c9}.full{fill:#c8504a}\n\
+.stripes{stroke:#f4f6f8}.edges{stroke:#e3e7eb}.ticks{stroke:#bcc4cc}</style>\n",
     );
 }
 
 // The picture begins, on a white ground.
 pub(crate) fn print_head(width: u64, height: u64) {
     let mut line = io::buffer();
-    let a = text::put_field(
+    let wide = text::put_field(
         &mut line,
         0,
         b"<svg xmlns=\"http://www.w3.org/2000/svg\" width=\"",
         width,
     );
-    let b = text::put_field(&mut line, a, b"\" height=\"", height);
-    let c = text::put_field(&mut line, b, b"\" viewBox=\"0 0 ", width);
-    let d = text::put_field(&mut line, c, b" ", height);
-    let e = text::put(
+    let tall = text::put_field(&mut line, wide, b"\" height=\"", height);
+    let seen = text::put_field(&mut line, tall, b"\" viewBox=\"0 0 ", width);
+    let whole = text::put_field(&mut line, seen, b" ", height);
+    let ended = text::put(
         &mut line,
-        d,
+        whole,
         b"\" font-family=\"sans-serif\" font-size=\"12\" fill=\"#20262d\">\n<title>Slot plan</title>\n",
     );
-    print(&line, e);
+    print(&line, ended);
     print_style();
     io::write_all(1, b"<rect width=\"100%\" height=\"100%\" fill=\"#fff\"/>\n");
 }
 
 pub(crate) fn print_tail() {
     io::write_all(1, b"</svg>\n");
+}
+
+// Every other row of 20 pixels on a grey ground, from this height down. A wide stroke in dashes draws them all.
+pub(crate) fn print_stripes(width: u64, top: u64, rows: u64)
+    requires { ⌜ (width ≤ 10000) × (rows ≤ 64) ⌝ }
+{
+    let mut line = io::buffer();
+    let wide = text::put_field(
+        &mut line,
+        0,
+        b"<path class=\"stripes\" stroke-dasharray=\"20\" stroke-width=\"",
+        width,
+    );
+    let left = text::put_field(&mut line, wide, b"\" d=\"M", 24 + width / 2);
+    let high = text::put_field(&mut line, left, b" ", top);
+    let low = text::put_field(&mut line, high, b"v", 20 * rows);
+    let ended = text::put(&mut line, low, b"\"/>\n");
+    print(&line, ended);
 }
 
 // Puts a number of things, with its plural.
@@ -57,10 +74,10 @@ pub(crate) fn put_count(out: &mut [u8], at: usize, count: u64, thing: &[u8]) -> 
 fn print_legend() {
     io::write_all(
         1,
-        b"<g class=\"g\" transform=\"translate(24 60)\"><path class=\"s\" transform=\"translate(0 -4) scale(14 12)\" d=\"M0 0h1\"/>\
-<text x=\"20\">sends</text><path class=\"i\" transform=\"translate(70 -4) scale(14 12)\" d=\"M0 0h1\"/><text x=\"90\">idle</text>\n\
-<rect class=\"l\" x=\"132\" y=\"-9\" width=\"28\" height=\"9\"/><text x=\"166\">load</text>\
-<rect class=\"h\" x=\"212\" y=\"-9\" width=\"28\" height=\"9\"/><text x=\"246\">load at 90% of the capacity or above</text></g>\n",
+        b"<g class=\"grey\" transform=\"translate(24 60)\"><path class=\"sends\" transform=\"translate(0 -4) scale(14 12)\" d=\"M0 0h1\"/>\
+<text x=\"20\">sends</text><path class=\"idle\" transform=\"translate(70 -4) scale(14 12)\" d=\"M0 0h1\"/><text x=\"90\">idle</text>\n\
+<rect class=\"load\" x=\"132\" y=\"-9\" width=\"28\" height=\"9\"/><text x=\"166\">load</text>\
+<rect class=\"full\" x=\"212\" y=\"-9\" width=\"28\" height=\"9\"/><text x=\"246\">load at 90% of the capacity or above</text></g>\n",
     );
 }
 
@@ -70,7 +87,7 @@ pub(crate) fn print_heading(links: u64, flows: u64) {
     let begun = text::put(
         &mut line,
         0,
-        b"<text x=\"24\" y=\"36\"><tspan class=\"b\" font-size=\"20\">Slot plan</tspan> <tspan class=\"g\" dx=\"12\" font-size=\"14\">",
+        b"<text x=\"24\" y=\"36\"><tspan class=\"bold\" font-size=\"20\">Slot plan</tspan> <tspan class=\"grey\" dx=\"12\" font-size=\"14\">",
     );
     let linked = put_count(&mut line, begun, links, b" link");
     let parted = text::put(&mut line, linked, b", ");

@@ -1,7 +1,8 @@
 // A panel for each parent with children: its frame, slot by slot.
-use crate::marks::frame;
+use crate::marks::frame_under;
 use crate::marks::idle_count;
 use crate::page::print;
+use crate::page::print_stripes;
 use crate::page::put_count;
 use crate::rows::Scale;
 use crate::rows::print_axis;
@@ -53,9 +54,9 @@ fn with_panel(size: Size, site: Site, parent: u8) -> Size
     if children == 0 {
         return size;
     }
-    let scale = scale_of(frame(site, parent) as usize);
+    let scale = scale_of(frame_under(site, parent) as usize);
     let height = size.height + panel_height(children);
-    let width = 436 + scale.span;
+    let width = 448 + scale.span;
     if width < size.width {
         return Size {
             width: size.width,
@@ -70,7 +71,7 @@ pub(crate) fn size_of(site: Site) -> Size
 {
     let links = site::link_count(site.links);
     let mut size = Size {
-        width: 660,
+        width: 684,
         height: 84,
     };
     let mut parent = 0;
@@ -82,7 +83,7 @@ pub(crate) fn size_of(site: Site) -> Size
     size
 }
 
-fn put_parent(out: &mut [u8], at: usize, parent: u8) -> usize {
+pub(crate) fn put_parent(out: &mut [u8], at: usize, parent: usize) -> usize {
     if parent == 0 {
         return text::put(out, at, b"under server (node 0)");
     }
@@ -106,13 +107,13 @@ fn print_title(site: Site, parent: u8, frame: u16, y: u64) {
     let bold = text::put(
         &mut line,
         low,
-        b")\">\n<text x=\"24\" y=\"18\" font-size=\"14\"><tspan class=\"b\">",
+        b")\">\n<text x=\"24\" y=\"18\" font-size=\"14\"><tspan class=\"bold\">",
     );
-    let named = put_parent(&mut line, bold, parent);
+    let named = put_parent(&mut line, bold, parent as usize);
     let based = text::put_field(
         &mut line,
         named,
-        b"</tspan> <tspan class=\"g\" dx=\"8\">base ",
+        b"</tspan> <tspan class=\"grey\" dx=\"8\">base ",
         base as u64,
     );
     let parted = text::put(&mut line, based, b", frame of ");
@@ -124,28 +125,15 @@ fn print_title(site: Site, parent: u8, frame: u16, y: u64) {
     print(&line, ended);
 }
 
-// What the columns are, and every other row on a grey ground.
-fn print_ground(rows: u64, span: u64)
-    requires { ⌜ (rows ≤ 64) × (span ≤ 1024) ⌝ }
-{
-    let mut line = io::buffer();
-    let wide = text::put_field(
-        &mut line,
-        0,
-        b"<path class=\"z\" stroke-dasharray=\"20\" stroke-width=\"",
-        388 + span,
+fn print_columns() {
+    io::write_all(
+        1,
+        b"<g class=\"grey\" font-size=\"10\"><text x=\"76\" y=\"40\">sends in slots</text><text x=\"216\" y=\"40\">load of capacity</text>\
+<text class=\"end\" x=\"416\" y=\"40\">slot</text></g>\n",
     );
-    let left = text::put_field(&mut line, wide, b"\" d=\"M", 218 + span / 2);
-    let low = text::put_field(&mut line, left, b" 46v", 20 * rows);
-    let ended = text::put(
-        &mut line,
-        low,
-        b"\"/>\n<g class=\"g\" font-size=\"10\"><text x=\"76\" y=\"40\">sends in slots</text><text x=\"204\" y=\"40\">load of capacity</text><text class=\"e\" x=\"404\" y=\"40\">slot</text></g>\n",
-    );
-    print(&line, ended);
 }
 
-// Edges of slots: lines one pixel wide, this far apart, from the numbers or from the rows down. A wide stroke in dashes draws them all.
+// Edges of slots: lines one pixel wide and this far apart, as dashes of a wide stroke.
 fn print_edges(class: &[u8], apart: u64, middle: u64, height: u64, span: u64)
     requires { ⌜ (1 ≤ apart) × (span ≤ 1024) ⌝ }
 {
@@ -154,7 +142,7 @@ fn print_edges(class: &[u8], apart: u64, middle: u64, height: u64, span: u64)
     let named = text::put(&mut line, begun, class);
     let dashed = text::put_field(&mut line, named, b"\" stroke-dasharray=\"1 ", apart - 1);
     let tall = text::put_field(&mut line, dashed, b"\" stroke-width=\"", height);
-    let low = text::put_field(&mut line, tall, b"\" d=\"M412 ", middle);
+    let low = text::put_field(&mut line, tall, b"\" d=\"M424 ", middle);
     let wide = text::put_field(&mut line, low, b"h", span + 1);
     let ended = text::put(&mut line, wide, b"\"/>\n");
     print(&line, ended);
@@ -174,17 +162,18 @@ fn print_links(site: Site, parent: u8, loads: [u32; 63], scale: Scale) {
     }
 }
 
-// The rows of a parent with so many children, with the edges of the slots above them.
+// The rows of a parent with so many children. The edges of the slots are drawn over the marks, so that two marks side by side stay apart.
 fn print_rows(site: Site, parent: u8, loads: [u32; 63], children: u64, scale: Scale)
     requires { ⌜ (children ≤ 63) × Scaled scale ⌝ }
 {
     let rows = children + 1;
-    print_ground(rows, scale.span);
+    print_stripes(400 + scale.span, 46, rows);
+    print_columns();
     print_links(site, parent, loads, scale);
     print_idle(site, parent, 46 + 20 * children, scale);
-    print_edges(b"c", scale.width, 46 + 10 * rows, 20 * rows, scale.span);
+    print_edges(b"edges", scale.width, 46 + 10 * rows, 20 * rows, scale.span);
     print_edges(
-        b"d",
+        b"ticks",
         scale.spacing,
         44 + 10 * rows,
         4 + 20 * rows,
@@ -205,7 +194,7 @@ fn print_panel(site: Site, parent: u8, loads: [u32; 63], y: u64) -> u64
     if children == 0 {
         return y;
     }
-    let frame = frame(site, parent);
+    let frame = frame_under(site, parent);
     print_title(site, parent, frame, y);
     print_rows(site, parent, loads, children, scale_of(frame as usize));
     io::write_all(1, b"</g>\n");

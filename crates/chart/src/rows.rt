@@ -1,12 +1,13 @@
-// The rows of a panel: one for each child, one for the idle slots, and the numbers of the slots. A row is 20 pixels high, and slots begin 412 from the left.
+// The rows of a panel: one for each child, one for the idle slots, and the numbers of the slots. A row is 20 pixels high, and slots begin 424 from the left.
 use crate::marks::put_idle_marks;
 use crate::marks::put_link_marks;
 use crate::page::print;
 use site::Site;
-ghost use Prim.Native.Nat.{_≤_, _<_};
+ghost use mathlib.Core.Path.{_≡_};
+ghost use Prim.Native.Nat.{min, _≤_, _<_};
 ghost use Rattle.chart.specs.Inner.{Scaled};
 
-// How many pixels a slot is wide, which slots have a number, how far these are apart, and the width of all slots.
+// How many slots are shown, the width of one, which have a number, how far these numbers are apart, and the width of all slots.
 pub(crate) struct Scale {
     pub slots: usize,
     pub width: u64,
@@ -15,9 +16,9 @@ pub(crate) struct Scale {
     pub span: u64,
 }
 
-// A number of three digits takes less than 24 pixels.
+// At most 128 slots are shown. A number of three digits takes less than 28 pixels.
 pub(crate) fn scale_of(slots: usize) -> Scale
-    ensures { λ r. ⌜ Scaled r ⌝ }
+    ensures { λ r. ⌜ (r .slots ≡ min slots 128) × Scaled r ⌝ }
 {
     if slots <= 36 {
         return Scale {
@@ -66,7 +67,7 @@ fn put_numbers(out: &mut [u8], at: usize, y: u64, scale: Scale) -> usize
     requires { ⌜ Scaled scale ⌝ }
 {
     let mut taken = at;
-    let mut x = 412 + scale.width / 2;
+    let mut x = 424 + scale.width / 2;
     let mut slot = 0;
     while slot < scale.slots {
         taken = put_number(out, taken, x, y, slot);
@@ -81,7 +82,7 @@ pub(crate) fn print_axis(y: u64, scale: Scale)
     requires { ⌜ Scaled scale ⌝ }
 {
     let mut line = io::buffer();
-    let begun = text::put(&mut line, 0, b"<g class=\"n\">");
+    let begun = text::put(&mut line, 0, b"<g class=\"numbers\">");
     let numbered = put_numbers(&mut line, begun, y, scale);
     let ended = text::put(&mut line, numbered, b"</g>\n");
     print(&line, ended);
@@ -104,37 +105,27 @@ fn filled(load: u32, capacity: u16) -> u64 {
     pixels
 }
 
-fn put_bar(out: &mut [u8], at: usize, load: u32, capacity: u16) -> usize {
-    let room = text::put(
-        out,
-        at,
-        b"<rect class=\"t\" x=\"204\" y=\"6\" width=\"80\" height=\"9\"/>",
-    );
-    let pixels = filled(load, capacity);
+fn put_bar(out: &mut [u8], at: usize, class: &[u8], pixels: u64) -> usize {
+    let begun = text::put(out, at, b"<rect class=\"");
+    let named = text::put(out, begun, class);
+    let wide = text::put_field(out, named, b"\" x=\"216\" y=\"6\" width=\"", pixels);
+    text::put(out, wide, b"\" height=\"9\"/>")
+}
+
+fn put_fill(out: &mut [u8], at: usize, load: u32, capacity: u16) -> usize {
     if 9 * capacity as u64 <= 10 * load as u64 {
-        let full = text::put_field(
-            out,
-            room,
-            b"<rect class=\"h\" x=\"204\" y=\"6\" width=\"",
-            pixels,
-        );
-        return text::put(out, full, b"\" height=\"9\"/>");
+        return put_bar(out, at, b"full", filled(load, capacity));
     }
-    let drawn = text::put_field(
-        out,
-        room,
-        b"<rect class=\"l\" x=\"204\" y=\"6\" width=\"",
-        pixels,
-    );
-    text::put(out, drawn, b"\" height=\"9\"/>")
+    put_bar(out, at, b"load", filled(load, capacity))
 }
 
 fn put_load(out: &mut [u8], at: usize, load: u32, capacity: u16) -> usize {
-    let drawn = put_bar(out, at, load, capacity);
+    let room = put_bar(out, at, b"room", 80);
+    let drawn = put_fill(out, room, load, capacity);
     let kept = text::put_field(
         out,
         drawn,
-        b"<text class=\"e\" x=\"388\" y=\"14\">",
+        b"<text class=\"end\" x=\"404\" y=\"14\">",
         load as u64,
     );
     let whole = text::put_field(out, kept, b" of ", capacity as u64);
@@ -145,7 +136,7 @@ fn put_slots(out: &mut [u8], at: usize, offset: u16, period: u16) -> usize {
     let begun = text::put_field(
         out,
         at,
-        b"<text class=\"g\" x=\"76\" y=\"14\" font-size=\"11\">from ",
+        b"<text class=\"grey\" x=\"76\" y=\"14\" font-size=\"11\">from ",
         offset as u64,
     );
     let again = text::put_field(out, begun, b" every ", period as u64);
@@ -166,7 +157,7 @@ fn put_path(out: &mut [u8], at: usize, class: &[u8], width: u64) -> usize {
     let scaled = text::put_field(
         out,
         named,
-        b"\" transform=\"translate(412 10) scale(",
+        b"\" transform=\"translate(424 10) scale(",
         width,
     );
     text::put(out, scaled, b" 12)\" d=\"")
@@ -184,7 +175,7 @@ pub(crate) fn print_link(site: Site, node: usize, y: u64, load: u32, scale: Scal
     let named = put_name(&mut line, 0, node, y);
     let timed = put_slots(&mut line, named, offset, period);
     let loaded = put_load(&mut line, timed, load, capacity);
-    let drawn = put_path(&mut line, loaded, b"s", scale.width);
+    let drawn = put_path(&mut line, loaded, b"sends", scale.width);
     let marked = put_link_marks(&mut line, drawn, site, node, scale.slots);
     let ended = text::put(&mut line, marked, b"\"/></g>\n");
     print(&line, ended);
@@ -193,13 +184,15 @@ pub(crate) fn print_link(site: Site, node: usize, y: u64, load: u32, scale: Scal
 // The row of the slots in which no child of the parent sends.
 pub(crate) fn print_idle(site: Site, parent: u8, y: u64, scale: Scale) {
     let mut line = io::buffer();
-    let begun = text::put_field(&mut line, 0, b"<g class=\"g\" transform=\"translate(0 ", y);
-    let named = text::put(
+    let begun = text::put_field(&mut line, 0, b"<g id=\"idle", parent as u64);
+    let low = text::put_field(
         &mut line,
         begun,
-        b")\"><text x=\"24\" y=\"14\">idle</text>\n",
+        b"\" class=\"grey\" transform=\"translate(0 ",
+        y,
     );
-    let drawn = put_path(&mut line, named, b"i", scale.width);
+    let named = text::put(&mut line, low, b")\"><text x=\"24\" y=\"14\">idle</text>\n");
+    let drawn = put_path(&mut line, named, b"idle", scale.width);
     let marked = put_idle_marks(&mut line, drawn, site, parent, scale.slots);
     let ended = text::put(&mut line, marked, b"\"/></g>\n");
     print(&line, ended);

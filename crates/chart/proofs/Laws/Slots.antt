@@ -48,9 +48,9 @@ unfolding linkSends ofLink
 sends-link s zero t l h = absurd (omega arith)
 sends-link s (suc i) t l h = let e : suc i - 1 ≡ i = omega arith in rw (e, lt-ltb _ _ l, le-leb _ _ h)
 
-pub marks-link : (s : Site) (n slots : ℕ) (t : ℕ × List ℕ) → 0 < n → n ≤ s .links
-    → puts t (marks (sends (getD (s .periods) (n - 1) 0) (getD (s .offsets) (n - 1) 0)) slots) ≡ puts t (marks (linkSends s n) slots)
-marks-link s n slots t l h = ap (λ (pieces : List (List ℕ)). puts t pieces) (marks-same _ _ slots (λ u. sends-link s n u l h))
+pub marks-link : (s : Site) (n slots : ℕ) (t u : ℕ × List ℕ) → 0 < n → n ≤ s .links
+    → u ≡ puts t (marks (sends (getD (s .periods) (n - 1) 0) (getD (s .offsets) (n - 1) 0)) slots) → u ≡ puts t (marks (linkSends s n) slots)
+marks-link s n slots t u l h e = e ∙ ap (λ (pieces : List (List ℕ)). puts t pieces) (marks-same _ _ slots (λ k. sends-link s n k l h))
 
 -- The links before index i are no children that send, so that the answer lies in the rest.
 module _ (parents periods offsets : List ℕ) (p n t : ℕ) where

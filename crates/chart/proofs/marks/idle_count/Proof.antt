@@ -36,10 +36,10 @@ loop-less c = search needs
 loop-again : tie.Need-loop-again Inv-loop μ-loop
 loop-again c =
     let sofar = c .before .before .before .before .before .before .before .before .before .before .loop .inv in
-    let test = idle-test _ _ _ _ _ (c .before .is-busy .ensures) (sofar .0) in
+    let busy = c .before .is-busy .ensures in
     elim (c .if1 .came) [
-      | inl w ↦ (sofar .0, omega arith, idled-more _ _ _ _ _ (sofar .2) (test ∙ w .0 .taken) (w .1))
-      | inr w ↦ (sofar .0, omega arith, idled-same _ _ _ _ _ (sofar .2) (test ∙ w .0 .left) (w .1))
+      | inl w ↦ (sofar .0, omega arith, idled-more _ _ _ _ _ (sofar .2) (idle-test _ _ _ _ _ busy (sofar .0) ∙ w .0 .taken) (w .1))
+      | inr w ↦ (sofar .0, omega arith, idled-same _ _ _ _ _ (sofar .2) (idle-test _ _ _ _ _ busy (sofar .0) ∙ w .0 .left) (w .1))
     ]
 
 returns : tie.Need-returns Inv-loop μ-loop

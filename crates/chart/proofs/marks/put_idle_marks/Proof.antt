@@ -38,10 +38,10 @@ loop-less c = search needs
 loop-again : tie.Need-loop-again Inv-loop μ-loop
 loop-again c =
     let sofar = c .before .before .before .before .before .before .before .before .before .before .loop .inv in
-    let test = idle-test _ _ _ _ _ (c .before .is-busy .ensures) (sofar .0) in
+    let busy = c .before .is-busy .ensures in
     elim (c .if1 .came) [
-      | inl w ↦ (sofar .0, omega arith, printed-line _ _ _ _ (sofar .2) _ (mark-here _ _ (test ∙ w .0 .taken)) _ _ _ _ (w .6) (w .5) (w .2 .ensures))
-      | inr w ↦ (sofar .0, omega arith, printed-none _ _ _ _ _ (sofar .2) (mark-none _ _ (test ∙ w .0 .left)) _ _ (w .2) (w .1))
+      | inl w ↦ (sofar .0, omega arith, printed-line _ _ _ _ (sofar .2) _ (mark-here _ _ (idle-test _ _ _ _ _ busy (sofar .0) ∙ w .0 .taken)) _ _ _ _ (w .6) (w .5) (w .2 .ensures))
+      | inr w ↦ (sofar .0, omega arith, printed-none _ _ _ _ _ (sofar .2) (mark-none _ _ (idle-test _ _ _ _ _ busy (sofar .0) ∙ w .0 .left)) _ _ (w .2) (w .1))
     ]
 
 same-length : tie.Need-same-length Inv-loop μ-loop

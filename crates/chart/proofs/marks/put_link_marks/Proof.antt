@@ -1,6 +1,5 @@
 -- Right because the period and the offset are those of the link.
 use borrow.Author.Needs.{needs}
-use mathlib.Core.Path.{_∙_}
 use native.Mathlib.Omega.{arith}
 use Rattle.chart.proofs.Laws.Slots.{marks-link}
 use Rattle.chart.proofs.marks.put_link_marks.Statement.{statement}
@@ -28,9 +27,7 @@ same-length : tie.Need-same-length
 same-length c = search needs
 
 returns : tie.Need-returns
-returns c =
-    let args = c .before .before .before .before .before .before .before .args in
-    c .before .before .put-marks .ensures ∙ marks-link (args .t3) (args .node) _ _ (omega arith) (omega arith)
+returns c = marks-link (c .before .before .before .before .before .before .before .args .t3) (c .before .before .before .before .before .before .before .args .node) (c .before .before .before .before .before .before .before .args .slots) _ _ (omega arith) (omega arith) (c .before .before .put-marks .ensures)
 
 pub put-link-marks-spec : {M : Type 1} → statement M
 put-link-marks-spec =

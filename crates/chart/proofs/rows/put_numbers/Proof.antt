@@ -8,7 +8,7 @@ use Rattle.chart.proofs.rows.put_numbers.Statement.{statement}
 use Rattle.chart.proofs.rows.put_numbers.Tie as tie
 
 abbrev Inv-loop : tie.InvT-loop
-Inv-loop out₀ at y scale taken₀ x₀ slot₀ out taken x slot = (slot ≤ 132) × (x ≤ 426 + 32 * slot) × (length out ≡ length out₀)
+Inv-loop out₀ at y scale taken₀ x₀ slot₀ out taken x slot = (slot ≤ 132) × (x ≤ 438 + 32 * slot) × (length out ≡ length out₀)
 
 abbrev μ-loop : tie.MeasureT-loop
 μ-loop out₀ at y scale taken₀ x₀ slot₀ out taken x slot = scale .slots - slot

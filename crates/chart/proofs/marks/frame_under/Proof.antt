@@ -3,8 +3,8 @@ use borrow.Author.Needs.{needs}
 use Prim.Native.Nat.{_≤_}
 use mathlib.Core.Path.{refl}
 use Rattle.chart.proofs.Laws.Slots.{links-few, Longest, longest-start, longest-child, longest-other, longest-end}
-use Rattle.chart.proofs.marks.frame.Statement.{statement}
-use Rattle.chart.proofs.marks.frame.Tie as tie
+use Rattle.chart.proofs.marks.frame_under.Statement.{statement}
+use Rattle.chart.proofs.marks.frame_under.Tie as tie
 
 abbrev Inv-loop : tie.InvT-loop
 Inv-loop parent site longest₀ i₀ longest i = (i₀ ≤ 63) × Longest site parent i₀ i longest
@@ -48,8 +48,8 @@ loop-again-2 c = (search needs, longest-other _ _ _ _ _ _ (c .before .before .be
 returns : tie.Need-returns Inv-loop μ-loop
 returns c = longest-end _ _ _ _ _ (c .before .loop .inv .1) (search needs) (c .before .before .link-count .ensures)
 
-pub frame-spec : {M : Type 1} → statement M
-frame-spec =
+pub frame-under-spec : {M : Type 1} → statement M
+frame-under-spec =
     tie.close
     (tie.spec
     Inv-loop
