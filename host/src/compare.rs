@@ -1,5 +1,6 @@
 //! The compiled programs against this implementation, on random inputs.
 
+use crate::chart;
 use crate::damage::random_plan;
 use crate::lines::first_difference;
 use crate::outcomes::{Tally, CALLS, GAP_LISTS, PLANS, SCHEDULES, SITES};
@@ -130,6 +131,22 @@ fn compare_one(program: &Path, file: &[u8], expected: String) -> Result<(), Stri
     compare(program, &[], file, &[case])
 }
 
+/// chart draws one plan, so it is run for each. Its picture is read back.
+fn compare_picture(program: &Path, plan: &[u8]) -> Result<(), String> {
+    let objection = match printed(program, &[], plan) {
+        Ok(picture) => chart::objection(plan, &picture),
+        Err(error) => Some(error),
+    };
+    let (name, input) = (program.display(), hex(plan));
+    match objection {
+        None => Ok(()),
+        Some(objection) => Err(format!(
+            "{name}: {objection}\ninput:\n{}",
+            input.trim_start()
+        )),
+    }
+}
+
 /// rehearse, which reads its plan from a file, so it is run for each session.
 struct Rehearse {
     program: PathBuf,
@@ -186,6 +203,7 @@ impl Drop for Rehearse {
 
 struct Comparison {
     slotplan: PathBuf,
+    chart: PathBuf,
     readschedule: PathBuf,
     vectors: Feed,
     altered: Feed,
@@ -200,6 +218,7 @@ impl Comparison {
         let feed = |name, heading, calls| Feed::new(name, folder, Tally::new(heading, calls));
         Comparison {
             slotplan: folder.join("slotplan"),
+            chart: folder.join("chart"),
             readschedule: folder.join("readschedule"),
             vectors: feed("test_vectors", "plans", PLANS),
             altered: feed("test_altered", "altered sites", SITES),
@@ -222,7 +241,12 @@ impl Comparison {
 
     fn missing(&self) -> Vec<&Path> {
         let programs = self.feeds().map(|feed| feed.program.as_path());
-        let others = [&self.slotplan, &self.readschedule, &self.rehearse.program];
+        let others = [
+            &self.slotplan,
+            &self.chart,
+            &self.readschedule,
+            &self.rehearse.program,
+        ];
         let all = others.map(PathBuf::as_path).into_iter().chain(programs);
         all.filter(|program| !program.is_file()).collect()
     }
@@ -233,6 +257,7 @@ impl Comparison {
             let plan = random_plan(random);
             self.vectors.add(format!("{}\n", hex(&plan).trim_start()))?;
             compare_one(&self.slotplan, &plan, slotplan(&plan))?;
+            compare_picture(&self.chart, &plan)?;
             self.altered.add(altered_lines(random))?;
             self.deals.add(deals_line(random))?;
             self.calls.add(call_lines(random))?;
