@@ -2,35 +2,12 @@
 
 use crate::library::ARCHIVE;
 use crate::lines::first_difference;
+use crate::places::{read_text, top, Folder};
 use std::fs;
 use std::io::ErrorKind;
-use std::path::{Path, PathBuf};
 use std::process::Command;
 
 const WARNINGS: [&str; 4] = ["-Wall", "-Wextra", "-Werror", "-pedantic"];
-
-fn top() -> PathBuf {
-    Path::new(env!("CARGO_MANIFEST_DIR")).join("..")
-}
-
-/// A folder of its own for each test, gone at its end.
-struct Folder(PathBuf);
-
-impl Folder {
-    fn new(name: &str) -> Folder {
-        let folder = format!("slotplan_{name}_{}", std::process::id());
-        let folder = std::env::temp_dir().join(folder);
-        fs::create_dir_all(&folder).unwrap();
-        Folder(folder)
-    }
-}
-
-impl Drop for Folder {
-    /// If the folder cannot be removed, the test has still shown what it shows.
-    fn drop(&mut self) {
-        let _ = fs::remove_dir_all(&self.0);
-    }
-}
 
 /// Whether the compiler is there. The error is what it prints about the sources.
 fn compile(compiler: &str, arguments: &[&str]) -> Result<bool, String> {
@@ -63,7 +40,7 @@ fn the_example_prints_what_is_stored() {
         program.to_str().unwrap(),
     ]);
     let output = Command::new(&program).output().unwrap();
-    let stored = fs::read_to_string(top().join("examples/live_site.out")).unwrap();
+    let stored = read_text(&top().join("examples/live_site.out"));
     let printed = String::from_utf8_lossy(&output.stdout);
     assert_eq!(first_difference(&printed, &stored), None);
     assert!(output.stderr.is_empty() && output.status.success());

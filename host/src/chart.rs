@@ -4,7 +4,10 @@ mod svg;
 
 use crate::bytes::read_plan;
 use crate::lines::first_difference;
+use crate::programs::hex;
 use crate::rules::{Refusal, Site};
+use crate::running::printed_text;
+use std::path::Path;
 use svg::{read_svg, Element};
 
 /// Of a longer frame the first slots are shown.
@@ -18,10 +21,23 @@ const ROW: u64 = 20;
 const NUMBERS_APART: u64 = 24;
 
 /// What the picture of a plan does not show as it should, or what is wrong with the picture itself.
-pub fn objection(plan: &[u8], picture: &str) -> Option<String> {
+fn objection(plan: &[u8], picture: &str) -> Option<String> {
     match shown_lines(picture) {
         Ok(found) => first_difference(&found, &expected_lines(plan)),
         Err(objection) => Some(objection),
+    }
+}
+
+/// The program draws one plan, so it is run for each.
+pub fn compare_picture(program: &Path, plan: &[u8]) -> Result<(), String> {
+    let objection = match printed_text(program, &[], plan) {
+        Ok(picture) => objection(plan, &picture),
+        Err(error) => Some(error),
+    };
+    let (name, input) = (program.display(), hex(plan));
+    match objection {
+        None => Ok(()),
+        Some(what) => Err(format!("{name}: {what}\ninput:\n{}", input.trim_start())),
     }
 }
 
@@ -400,7 +416,6 @@ fn check_numbers(panel: &Element, grid: &Grid, drawn: u64) -> Result<(), String>
 #[cfg(test)]
 mod tests {
     use super::*;
-    use std::path::Path;
 
     /// The stored run: its plan and its picture.
     fn stored() -> (Vec<u8>, String) {

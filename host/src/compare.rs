@@ -1,6 +1,7 @@
 //! The compiled programs against this implementation, on random inputs.
 
-use crate::chart;
+use crate::chart::compare_picture;
+use crate::compare_typed::Typed;
 use crate::damage::random_plan;
 use crate::lines::first_difference;
 use crate::outcomes::{Tally, CALLS, GAP_LISTS, PLANS, SCHEDULES, SITES};
@@ -11,12 +12,11 @@ use crate::random_gaps::deals_line;
 use crate::random_schedules::schedule_lines;
 use crate::random_sessions::Sessions;
 use crate::random_sites::altered_lines;
+use crate::rehearse_lines::{cannot_open, USAGE};
+use crate::running::{printed_text, run, Printed};
 use crate::schedule_lines::readschedule;
 use std::fs;
-use std::io::Write;
 use std::path::{Path, PathBuf};
-use std::process::{Command, Stdio};
-use std::thread;
 
 /// The programs that read lines hold 131,072 bytes of text.
 const MOST_TEXT: usize = 65_000;
@@ -64,27 +64,6 @@ impl Feed {
     }
 }
 
-/// The printed text of a program. One that is ended by a signal has given no answer.
-fn printed(program: &Path, arguments: &[&Path], input: &[u8]) -> Result<String, String> {
-    let mut child = Command::new(program)
-        .args(arguments)
-        .stdin(Stdio::piped())
-        .stdout(Stdio::piped())
-        .spawn()
-        .map_err(|error| error.to_string())?;
-    let mut stdin = child.stdin.take().expect("the pipe was asked for");
-    let output = thread::scope(|scope| {
-        // A program may stop reading before the end of its input, so a failed write is no failure here.
-        scope.spawn(move || stdin.write_all(input).is_ok());
-        child.wait_with_output()
-    });
-    let output = output.map_err(|error| error.to_string())?;
-    if output.status.code().is_none() {
-        return Err(output.status.to_string());
-    }
-    Ok(String::from_utf8_lossy(&output.stdout).into_owned())
-}
-
 fn compare(
     program: &Path,
     arguments: &[&Path],
@@ -93,7 +72,7 @@ fn compare(
 ) -> Result<(), String> {
     let name = program.display();
     let with_input = |what: String, input: &str| format!("{name}: {what}\ninput:\n{input}");
-    let output = printed(program, arguments, input);
+    let output = printed_text(program, arguments, input);
     let output = output.map_err(|error| with_input(error, &inputs(cases)))?;
     let mut rest = output.as_str();
     for case in cases {
@@ -122,8 +101,8 @@ fn end_of_lines(text: &str, lines: usize) -> usize {
     text.split_inclusive('\n').take(lines).map(str::len).sum()
 }
 
-/// slotplan reads one plan and readschedule one schedule file, so they are run for each.
-fn compare_one(program: &Path, file: &[u8], expected: String) -> Result<(), String> {
+/// slotplan and listing read one plan and readschedule one schedule file, so they are run for each.
+pub fn compare_one(program: &Path, file: &[u8], expected: String) -> Result<(), String> {
     let case = Case {
         input: format!("{}\n", hex(file).trim_start()),
         expected,
@@ -131,19 +110,25 @@ fn compare_one(program: &Path, file: &[u8], expected: String) -> Result<(), Stri
     compare(program, &[], file, &[case])
 }
 
-/// chart draws one plan, so it is run for each. Its picture is read back.
-fn compare_picture(program: &Path, plan: &[u8]) -> Result<(), String> {
-    let objection = match printed(program, &[], plan) {
-        Ok(picture) => chart::objection(plan, &picture),
+/// Standard output and standard error of a program, both in full. With a difference come the lines of the input, escaped.
+pub fn compare_both(
+    program: &Path,
+    arguments: &[&Path],
+    input: &[u8],
+    expected: &Printed,
+) -> Result<(), String> {
+    let difference = match run(program, arguments, input) {
+        Ok(printed) => printed.difference(expected),
         Err(error) => Some(error),
     };
-    let (name, input) = (program.display(), hex(plan));
-    match objection {
+    match difference {
         None => Ok(()),
-        Some(objection) => Err(format!(
-            "{name}: {objection}\ninput:\n{}",
-            input.trim_start()
-        )),
+        Some(what) => {
+            let lines = input.split_inclusive(|&byte| byte == b'\n');
+            let lines = lines.map(|line| format!("{}\n", line.escape_ascii()));
+            let input: String = lines.collect();
+            Err(format!("{}: {what}\ninput:\n{input}", program.display()))
+        }
     }
 }
 
@@ -166,18 +151,11 @@ impl Rehearse {
 
     /// As long as the file of the plan is not written, there is none.
     fn compare_without_plan(&self) -> Result<(), String> {
-        let case = Case {
-            input: "start\n".to_string(),
-            expected: "error\n".to_string(),
-        };
-        let arguments: [&[&Path]; 2] = [&[], &[&self.plan]];
-        for arguments in arguments {
-            compare(
-                &self.program,
-                arguments,
-                b"start\n",
-                std::slice::from_ref(&case),
-            )?;
+        let missing = cannot_open(&self.plan);
+        let runs: [(&[&Path], &str); 2] = [(&[], USAGE), (&[&self.plan], &missing)];
+        for (arguments, told) in runs {
+            let expected = Printed::told(told);
+            compare_both(&self.program, arguments, b"start\n", &expected)?;
         }
         Ok(())
     }
@@ -211,6 +189,7 @@ struct Comparison {
     calls: Feed,
     schedules: Feed,
     rehearse: Rehearse,
+    typed: Typed,
 }
 
 impl Comparison {
@@ -226,6 +205,7 @@ impl Comparison {
             calls: feed("test_calls", "calls", CALLS),
             schedules: feed("test_schedules", "schedules", SCHEDULES),
             rehearse: Rehearse::new(folder),
+            typed: Typed::new(folder),
         }
     }
 
@@ -248,6 +228,7 @@ impl Comparison {
             &self.rehearse.program,
         ];
         let all = others.map(PathBuf::as_path).into_iter().chain(programs);
+        let all = all.chain(self.typed.programs());
         all.filter(|program| !program.is_file()).collect()
     }
 
@@ -263,6 +244,7 @@ impl Comparison {
             self.calls.add(call_lines(random))?;
             self.compare_schedules(random)?;
             self.rehearse.compare(random)?;
+            self.typed.compare(random, &plan)?;
         }
         self.vectors.run()?;
         self.altered.run()?;
@@ -281,6 +263,7 @@ impl Comparison {
         for feed in self.feeds() {
             print!("{}", feed.tally);
         }
+        print!("{}", self.typed.tally);
         print!("{}", self.rehearse.sessions);
     }
 }

@@ -39,7 +39,8 @@ fn random_flow_command(random: &mut Random) -> Vec<u8> {
     flow_command(number, entry, rate, deadline)
 }
 
-fn damage_commands(random: &mut Random, commands: &mut Vec<Vec<u8>>) {
+/// A change of commands, of which there is at least one.
+pub fn damage_commands(random: &mut Random, commands: &mut Vec<Vec<u8>>) {
     let (first, second) = (random.index(commands.len()), random.index(commands.len()));
     let deadline = random.between(1, 65_535);
     match random.between(0, 11) {

@@ -1,7 +1,6 @@
 //! A test that the functions of the crate `embed`, the prototypes of the header and the declarations in `library.rs` agree.
 
-use std::fs;
-use std::path::Path;
+use crate::places::{read_text, top};
 
 /// A function with the types of its parameters and of its answer, as Rust writes them.
 #[derive(Clone, Debug, PartialEq, Eq, PartialOrd, Ord)]
@@ -133,9 +132,7 @@ fn of_header(text: &str) -> Option<Vec<Declared>> {
 
 /// Sorted by name, so that the order of the files does not matter.
 fn declared_in(path: &str, read: fn(&str) -> Option<Vec<Declared>>) -> Vec<Declared> {
-    let top = Path::new(env!("CARGO_MANIFEST_DIR")).join("..");
-    let text = fs::read_to_string(top.join(path));
-    let text = text.unwrap_or_else(|error| panic!("{path}: {error}"));
+    let text = read_text(&top().join(path));
     let mut declared =
         read(&text).unwrap_or_else(|| panic!("{path}: a declaration that is not understood"));
     declared.sort();

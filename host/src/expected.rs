@@ -1,8 +1,9 @@
 //! The stored outputs of the programs, compared with this implementation or written by it.
 
 use crate::lines::first_difference;
-use crate::programs::{output, PROGRAMS, REHEARSE};
+use crate::programs::{commands_in_hex, output, ASSEMBLE, PROGRAMS, REHEARSE};
 use crate::rehearse_lines::rehearse;
+use crate::typed::assemble;
 use std::fs;
 use std::path::{Path, PathBuf};
 
@@ -35,12 +36,21 @@ fn read(path: PathBuf) -> Result<Vec<u8>, String> {
     fs::read(&path).map_err(at(path))
 }
 
-fn computed(name: &str, folder: &Path) -> Result<String, String> {
+fn computed(name: &str, folder: &Path) -> Result<Vec<u8>, String> {
     let input = read(folder.join("stdin"))?;
-    if name == REHEARSE {
-        return rehearsed(folder, &input);
+    match name {
+        ASSEMBLE => assemble(&input),
+        REHEARSE => rehearsed(folder, &input).map(String::into_bytes),
+        _ => output(name, &input).map(String::into_bytes),
     }
-    output(name, &input)
+}
+
+/// The output as it is compared and counted.
+fn in_lines(name: &str, output: &[u8]) -> String {
+    match name {
+        ASSEMBLE => commands_in_hex(output),
+        _ => String::from_utf8_lossy(output).into_owned(),
+    }
 }
 
 /// The words that rehearse is given stand in `args`, one to a line. The first is the path of a plan, and the plan of the
@@ -64,9 +74,8 @@ fn rehearsed(folder: &Path, input: &[u8]) -> Result<String, String> {
 }
 
 fn check_one(name: &str, folder: &Path) -> Result<String, String> {
-    let expected = computed(name, folder)?;
-    let stored = read(folder.join("stdout"))?;
-    let stored = String::from_utf8_lossy(&stored);
+    let expected = in_lines(name, &computed(name, folder)?);
+    let stored = in_lines(name, &read(folder.join("stdout"))?);
     match first_difference(&stored, &expected) {
         None => Ok(format!("equal, {} lines", expected.lines().count())),
         Some(difference) => Err(format!("differs, {difference}")),
@@ -77,5 +86,6 @@ fn write_one(name: &str, folder: &Path) -> Result<String, String> {
     let expected = computed(name, folder)?;
     let path = folder.join("stdout");
     fs::write(&path, &expected).map_err(at(path))?;
-    Ok(format!("written, {} lines", expected.lines().count()))
+    let lines = in_lines(name, &expected).lines().count();
+    Ok(format!("written, {lines} lines"))
 }

@@ -11,6 +11,7 @@ mod calls;
 mod chart;
 mod compare;
 mod compare_library;
+mod compare_typed;
 mod damage;
 #[cfg(test)]
 mod declarations;
@@ -18,11 +19,17 @@ mod expected;
 #[cfg(test)]
 mod former;
 mod functions;
+#[cfg(test)]
+mod guide;
+#[cfg(test)]
+mod habits;
 mod host_calls;
 mod library;
 mod lines;
 mod model;
 mod outcomes;
+#[cfg(test)]
+mod places;
 mod plain;
 mod programs;
 mod random;
@@ -33,16 +40,22 @@ mod random_plans;
 mod random_schedules;
 mod random_sessions;
 mod random_sites;
+mod random_typed;
 mod rehearsal;
 mod rehearse_lines;
 mod rules;
+mod running;
+#[cfg(test)]
+mod samples;
 mod schedule_lines;
 mod schedules;
 mod shrink;
 mod slots;
 #[cfg(test)]
 mod trust;
+mod typed;
 mod watch;
+mod words;
 
 use std::path::Path;
 use std::process::ExitCode;

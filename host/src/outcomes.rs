@@ -75,6 +75,25 @@ pub const SCHEDULES: &[Call] = &[
     ),
 ];
 
+/// A text for assemble, by what is told of it.
+pub const TEXTS: &[Call] = &[call(
+    ["", ""],
+    &[
+        "assembled",
+        "neither node nor flow",
+        "PARENT must be a number from 0 to 255",
+        "CAPACITY must be a number from 0 to 65535",
+        "GAP must be a number from 0 to 65535",
+        "NUMBER must be a number from 0 to 255",
+        "NODE must be a number from 0 to 255",
+        "RATE must be a number from 0 to 255",
+        "DEADLINE must be a number from 0 to 65535",
+        "a word too many",
+        "more than 65535 bytes",
+    ],
+    &[],
+)];
+
 /// The calls of test_calls on the site without links, or while it is altered.
 #[cfg(test)]
 pub const CALLS_WITHOUT_LINKS: &[Call] = &[
@@ -156,6 +175,16 @@ pub const FUNCTIONS_WITHOUT_LINKS: &[Call] = &[
     call(["sender", "sender "], ACCEPTED, &[6]),
     call(["bound", "bound "], &[], &[5, 16]),
 ];
+
+/// The numbers that refuse some call of the library, rising.
+#[cfg(test)]
+pub fn refusal_numbers() -> Vec<u64> {
+    let refusals = FUNCTIONS.iter().flat_map(|call| call.refusals);
+    let mut numbers: Vec<u64> = refusals.copied().collect();
+    numbers.sort();
+    numbers.dedup();
+    numbers
+}
 
 struct Outcome {
     line_begins: &'static str,

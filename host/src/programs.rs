@@ -1,10 +1,13 @@
 //! What each program prints for an input.
 
-use crate::bytes::{passes_check_14, read_plan, write_plan, write_schedule, written};
+use crate::bytes::{
+    passes_check_14, read_plan, write_plan, write_schedule, written, COMMAND_LENGTH,
+};
 use crate::call_lines::Desk;
 use crate::rules::{slot_rule, Refusal, Site};
 use crate::schedule_lines::{readschedule, schedules_line};
 use crate::schedules::Schedule;
+use crate::typed::listing;
 
 /// The programs with a stored input and output, in crates of these names.
 pub const PROGRAMS: &[&str] = &[
@@ -20,10 +23,17 @@ pub const PROGRAMS: &[&str] = &[
     "readschedule",
     "test_schedules",
     REHEARSE,
+    LISTING,
+    ASSEMBLE,
 ];
 
 /// The program that is given a plan in a file besides its input.
 pub const REHEARSE: &str = "rehearse";
+
+pub const LISTING: &str = "listing";
+
+/// The program that prints plan bytes.
+pub const ASSEMBLE: &str = "assemble";
 
 pub const OF_8_BITS: u64 = 255;
 pub const OF_16_BITS: u64 = 65_535;
@@ -35,13 +45,14 @@ pub struct Answered {
     pub answer: String,
 }
 
-/// The error is about an input outside the form that the program reads.
+/// For the programs that print text. The error is about an input outside the form that the program reads.
 pub fn output(program: &str, input: &[u8]) -> Result<String, String> {
     match program {
         "slotplan" | "test_figures" | "test_bounds" | "test_overlong" | "test_wired" => {
             Ok(slotplan(input))
         }
         "readschedule" => Ok(readschedule(input)),
+        LISTING => Ok(listing(input)),
         _ => Ok(printed(&answered_lines(program, input)?)),
     }
 }
@@ -124,6 +135,14 @@ pub fn length_or_refusal(answer: Result<usize, Refusal>) -> String {
 /// Each byte after a space.
 pub fn hex(bytes: &[u8]) -> String {
     bytes.iter().map(|byte| format!(" {byte:02X}")).collect()
+}
+
+/// Plan bytes, a line to each command.
+pub fn commands_in_hex(bytes: &[u8]) -> String {
+    let commands = bytes.chunks(COMMAND_LENGTH);
+    commands
+        .map(|command| format!("{}\n", hex(command).trim_start()))
+        .collect()
 }
 
 /// Characters between the digits are passed over.

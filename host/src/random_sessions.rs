@@ -13,6 +13,7 @@ use crate::rehearsal::Rehearsal;
 use crate::rehearse_lines::{answer, begin, LONGEST_LINE};
 use crate::rules::{Site, FLOW_NUMBERS};
 use crate::watch::{Objection, Record};
+use crate::words::words;
 use std::fmt;
 
 pub struct Session {
@@ -172,13 +173,13 @@ impl Script<'_> {
 
     /// The number after an accepted slot is the next one. A refused slot counts as none.
     fn add(&mut self, line: String) {
+        let line = respaced(self.random, line);
         let answer = answer(&mut self.rehearsal, line.as_bytes());
-        let mut words = line.split(' ').filter(|word| !word.is_empty());
-        if words.next() == Some("slot") && answer == "accepted\n" {
-            let number = words.next().and_then(|word| word.parse::<u32>().ok());
-            self.next = number
-                .expect("an accepted slot has a number")
-                .wrapping_add(1);
+        if let ["slot", number, ..] = words(&line)[..] {
+            if answer == "accepted\n" {
+                let number: u32 = number.parse().expect("an accepted slot has a number");
+                self.next = number.wrapping_add(1);
+            }
         }
         self.lines.push(Answered { line, answer });
     }
@@ -317,6 +318,21 @@ impl Script<'_> {
     }
 }
 
+/// In some of the lines tabs and carriage returns among the spaces, or behind the last word.
+fn respaced(random: &mut Random, line: String) -> String {
+    if random.chance(80) {
+        return line;
+    }
+    let mut respaced = String::new();
+    for (index, word) in line.split(' ').enumerate() {
+        if index > 0 {
+            respaced += random.pick(&[" ", " ", "\t", "\r", "\t \r"]);
+        }
+        respaced += word;
+    }
+    respaced + random.pick(&["", "", "\r", "\t"])
+}
+
 /// Lines with an operand just beyond its limit.
 const BEYOND: [&str; 10] = [
     "slot 4294967296",
@@ -404,6 +420,21 @@ mod tests {
             session.lines.iter().for_each(|line| tally.count(line));
         }
         assert!(tally.all_reach(3), "{tally}");
+    }
+
+    #[test]
+    fn many_calls_have_tabs_and_carriage_returns() {
+        let mut random = Random::from_seed(45);
+        let sessions = (0..100).map(|_| random_session(&mut random));
+        let lines: Vec<Answered> = sessions.flat_map(|session| session.lines).collect();
+        for sign in ["\t", "\r"] {
+            let answers = ["accepted", "refused", "cells", "bound", "sender", "error"];
+            for begin in answers {
+                let spaced = lines.iter().filter(|line| line.line.contains(sign));
+                let met = spaced.filter(|line| line.answer.starts_with(begin));
+                assert!(met.count() >= 5, "{sign:?} {begin}");
+            }
+        }
     }
 
     #[test]

@@ -7,6 +7,8 @@ use crate::programs::{
 };
 use crate::rehearsal::Rehearsal;
 use crate::rules::{Flow, Site, FLOW_NUMBERS};
+use crate::words::{number_up_to, words};
+use std::path::Path;
 
 /// A line may have this many bytes before its newline.
 pub const LONGEST_LINE: usize = 1000;
@@ -25,10 +27,18 @@ pub fn begin(plan: &[u8]) -> (String, Option<Rehearsal>) {
     }
 }
 
-/// All that is printed for an input. None in the place of the plan: no file could be opened.
+/// What is told on standard error where there is not exactly one argument.
+pub const USAGE: &str = "usage: rehearse PLAN";
+
+/// What is told on standard error of a file that cannot be opened.
+pub fn cannot_open(path: &Path) -> String {
+    format!("rehearse: cannot open {}", path.display())
+}
+
+/// All that is printed on standard output for an input. None in the place of the plan: no file was named or could be opened.
 pub fn rehearse(plan: Option<&[u8]>, input: &[u8]) -> (String, Option<Rehearsal>) {
     let Some(plan) = plan else {
-        return (format!("{ERROR}\n"), None);
+        return (String::new(), None);
     };
     let (mut output, mut rehearsal) = begin(plan);
     if let Some(rehearsal) = &mut rehearsal {
@@ -49,7 +59,7 @@ pub fn answer(rehearsal: &mut Rehearsal, line: &[u8]) -> String {
     }
     // Bytes that are no text become signs that stand in no call.
     let text = String::from_utf8_lossy(line);
-    let words: Vec<&str> = text.split(' ').filter(|word| !word.is_empty()).collect();
+    let words = words(&text);
     if words.is_empty() {
         return String::new();
     }
@@ -89,19 +99,6 @@ fn call(rehearsal: &mut Rehearsal, words: &[&str]) -> Option<String> {
         ["show"] => Some(links_and_flows(site).trim_end().to_string()),
         _ => None,
     }
-}
-
-/// A number of decimal digits alone. Zeros before the others do not count, so at most ten are left of one that fits.
-fn number_up_to(word: &str, most: u64) -> Option<u64> {
-    if word.is_empty() || !word.bytes().all(|byte| byte.is_ascii_digit()) {
-        return None;
-    }
-    let digits = word.trim_start_matches('0');
-    if digits.len() > 10 {
-        return None;
-    }
-    let number = format!("0{digits}").parse().ok()?;
-    (number <= most).then_some(number)
 }
 
 fn slot_number(word: &str) -> Option<u32> {
@@ -205,7 +202,7 @@ mod tests {
 
     #[test]
     fn lines_that_say_nothing_are_passed_over() {
-        assert_eq!(on_p("\n   \n# start\n#\n"), "");
+        assert_eq!(on_p("\n   \n# start\n#\n\r\n\t \r\n#\r\n"), "");
         let (spaces, remark) = (" ".repeat(1000), "#".repeat(1000));
         assert_eq!(on_p(&format!("{spaces}\n{remark}\n{remark}")), "");
         assert_eq!(
@@ -215,16 +212,19 @@ mod tests {
     }
 
     #[test]
-    fn spaces_and_leading_zeros_are_allowed() {
+    fn spaces_tabs_carriage_returns_and_leading_zeros_are_allowed() {
         let zeros = "0".repeat(900);
-        let input =
-            format!("  slot   {zeros}4294967295 063=0  00=00003 \n release 00255\ncells {zeros}\n");
-        let expected = "accepted\nrefused 5 0\ncells 0 3 0 0 0 0 0 0 0\n";
+        let input = format!(
+            "  slot   {zeros}4294967295 063=0  00=00003 \n release 00255\ncells {zeros}\n\
+            \tslot\t\t0\r0=2 \r\ncells\t0\r\n\rbound 0\t\n"
+        );
+        let expected = "accepted\nrefused 5 0\ncells 0 3 0 0 0 0 0 0 0\n\
+            accepted\ncells 0 2 0 0 0 0 0 0 3\nbound 7 deadline 7\n";
         assert_eq!(on_p(&input), expected);
     }
 
     /// One line of these to each that is no call.
-    const NO_CALLS: &str = " # start\nstarts\nStart\nstart 0\nstart\t\n\tstart\nstart\r\nslot\nslot x\n\
+    const NO_CALLS: &str = " # start\n\t#\nstart #\nstarts\nStart\nstart 0\nstart\u{b}\n\u{c}start\nstart\0\nslot\nslot x\n\
         slot -1\nslot +1\nslot 4294967296\nslot 99999999999999999999\nslot 0 0\nslot 0 0=\nslot 0 =1\n\
         slot 0 0=1=1\nslot 0 0 = 1\nslot 0 0=65536\nslot 0 64=1\nslot 0 0=1 0=1\nslot 0 0=0 00=0\n\
         slot 0 0=1 1=x\nadmit 5 2 3\nadmit 5 2 3 6 7\nadmit 256 2 3 6\nadmit 5 256 3 6\n\
@@ -242,8 +242,8 @@ mod tests {
     }
 
     #[test]
-    fn without_an_accepted_plan_there_is_one_line() {
-        assert_eq!(rehearse(None, b"start\n").0, "error\n");
+    fn without_an_accepted_plan_no_line_is_answered() {
+        assert_eq!(rehearse(None, b"start\n").0, "");
         assert_eq!(rehearse(Some(&[]), b"start\n").0, "refused 2 0\n");
         assert_eq!(rehearse(Some(&[0xFF; 2]), b"start\n").0, "refused 10 1\n");
         assert_eq!(

@@ -1,11 +1,8 @@
 //! docs/TRUST.md tells how many lines of definitions a reader has to believe. They are counted anew here.
 
+use crate::places::{read_text, top};
 use std::fs;
 use std::path::Path;
-
-fn read(path: &Path) -> String {
-    fs::read_to_string(path).unwrap_or_else(|error| panic!("{}: {error}", path.display()))
-}
 
 /// Lines that are neither empty nor comments nor imports.
 fn lines_of(text: &str) -> usize {
@@ -23,7 +20,7 @@ fn lines_of_crate(top: &Path, name: &str) -> usize {
     files
         .map(|file| file.unwrap().path())
         .filter(|path| !path.ends_with("Lib.antt") && !path.ends_with("Inner.antt"))
-        .map(|path| lines_of(&read(&path)))
+        .map(|path| lines_of(&read_text(&path)))
         .sum()
 }
 
@@ -40,9 +37,9 @@ fn rows(page: &str) -> Vec<(String, usize)> {
 
 #[test]
 fn the_lines_of_definitions_are_as_many_as_the_page_says() {
-    let top = Path::new(env!("CARGO_MANIFEST_DIR")).join("..");
-    let rows = rows(&read(&top.join("docs/TRUST.md")));
-    let listed = read(&top.join("crates.txt"));
+    let top = top();
+    let rows = rows(&read_text(&top.join("docs/TRUST.md")));
+    let listed = read_text(&top.join("crates.txt"));
     let with_definitions = listed
         .lines()
         .filter_map(|line| line.split_once(':'))

@@ -1,15 +1,19 @@
 // What a line of a planner asks for.
-mod words;
-
 use site::Flow;
+use words::Operand;
 use words::blank;
-use words::complete;
-use words::decimal;
+use words::find;
 use words::next_operand;
 use words::next_word;
+use words::read_number;
 use words::same;
 ghost use mathlib.Core.Path.{_≡_};
-ghost use lib.ListN.{length};
+ghost use mathlib.Core.Bool.{_&&_};
+ghost use lib.Dec.{eqb};
+ghost use lib.ListN.{length, getD, drop};
+ghost use Rattle.words.specs.Words.{wordsOf, none};
+ghost use Rattle.call_text.specs.Lines.{alone, loneOf, admitOf, releaseOf, senderOf, flowOf, arrivalsOf, slotOf, otherOf, askedOf};
+ghost use Rattle.call_text.specs.Inner.{takenOf};
 
 // A call that may change the site or the counters, with its operands; the arrivals of a slot stand beside it.
 pub enum Call {
@@ -37,19 +41,51 @@ pub enum Line {
     Malformed,
 }
 
-// Whether the line has no word or begins with `#`.
-fn passed_over(line: &[u8]) -> bool {
+// What a line asks for, and the arrivals of a slot by flow number: 64 zeros for anything else.
+pub struct Asked {
+    pub line: Line,
+    pub arrivals: [u16; 64],
+}
+
+// Packets by flow number, if the words that were read give them.
+struct Arrivals {
+    given: bool,
+    counts: [u16; 64],
+}
+
+fn without_arrivals(line: Line) -> Asked
+    ensures { λ r. ⌜ r ≡ alone line ⌝ }
+{
+    Asked {
+        line,
+        arrivals: [0u16; 64],
+    }
+}
+
+// Whether the line begins with `#`.
+fn remark(line: &[u8]) -> bool
+    ensures { λ r. ⌜ r ≡ eqb (getD (now (line .entry)) 0 0) 35 ⌝ }
+{
     if line.len() == 0 {
-        return true;
+        return false;
     }
-    if line[0] == b'#' {
-        return true;
+    line[0] == b'#'
+}
+
+// Whether this operand, and with it each before it, is given and is the last word of the line.
+fn complete(line: &[u8], last: Operand) -> bool
+    ensures { λ r. ⌜ r ≡ (last .given && none (wordsOf (drop (last .next) (now (line .entry))))) ⌝ }
+{
+    if !last.given {
+        return false;
     }
-    blank(line, 0)
+    blank(line, last.next)
 }
 
 // A line of one word.
-fn lone_line(name: &[u8]) -> Line {
+fn lone_line(name: &[u8]) -> Line
+    ensures { λ r. ⌜ r ≡ loneOf (now (name .entry)) ⌝ }
+{
     if same(name, b"start") {
         return Line::Makes(Call::Start);
     }
@@ -65,29 +101,9 @@ fn lone_line(name: &[u8]) -> Line {
     Line::Malformed
 }
 
-// A line whose one operand is a flow number: one that is released may be any of 8 bits, since the library judges it.
-fn flow_line(name: &[u8], line: &[u8], from: usize) -> Line {
-    let flow = next_operand(line, from, 255);
-    if !complete(line, flow) {
-        return Line::Malformed;
-    }
-    let number = flow.value as u8;
-    if same(name, b"release") {
-        return Line::Makes(Call::Release(number));
-    }
-    if 63 < number {
-        return Line::Malformed;
-    }
-    if same(name, b"cells") {
-        return Line::Asks(Question::Cells(number));
-    }
-    if same(name, b"bound") {
-        return Line::Asks(Question::Bound(number));
-    }
-    Line::Malformed
-}
-
-fn admit_line(line: &[u8], from: usize) -> Line {
+fn admit_line(line: &[u8], from: usize) -> Line
+    ensures { λ r. ⌜ r ≡ admitOf (wordsOf (drop from (now (line .entry)))) ⌝ }
+{
     let number = next_operand(line, from, 255);
     let entry = next_operand(line, number.next, 255);
     let rate = next_operand(line, entry.next, 255);
@@ -103,7 +119,20 @@ fn admit_line(line: &[u8], from: usize) -> Line {
     }))
 }
 
-fn sender_line(line: &[u8], from: usize) -> Line {
+// A number that is released may be any of 8 bits: the library judges it.
+fn release_line(line: &[u8], from: usize) -> Line
+    ensures { λ r. ⌜ r ≡ releaseOf (wordsOf (drop from (now (line .entry)))) ⌝ }
+{
+    let number = next_operand(line, from, 255);
+    if !complete(line, number) {
+        return Line::Malformed;
+    }
+    Line::Makes(Call::Release(number.value as u8))
+}
+
+fn sender_line(line: &[u8], from: usize) -> Line
+    ensures { λ r. ⌜ r ≡ senderOf (wordsOf (drop from (now (line .entry)))) ⌝ }
+{
     let parent = next_operand(line, from, 255);
     let slot = next_operand(line, parent.next, 4294967295);
     if !complete(line, slot) {
@@ -112,17 +141,36 @@ fn sender_line(line: &[u8], from: usize) -> Line {
     Line::Asks(Question::Sender(parent.value as u8, slot.value))
 }
 
-// Puts the packets of a word N=K at flow number N; answers whether the word is of that form and the first that names the flow.
-fn take_arrivals(word: &[u8], arrivals: &mut [u16], named: &mut [bool]) -> bool
-    requires { ⌜ (64 ≡ length (now arrivals)) × (64 ≡ length (now named)) ⌝ }
+// A line that asks for something of one flow.
+fn flow_line(name: &[u8], line: &[u8], from: usize) -> Line
+    ensures { λ r. ⌜ r ≡ flowOf (now (name .entry)) (wordsOf (drop from (now (line .entry)))) ⌝ }
 {
-    let sign = bytes::scan::find(word, 0, word.len(), b'=');
+    let flow = next_operand(line, from, 63);
+    if !complete(line, flow) {
+        return Line::Malformed;
+    }
+    let number = flow.value as u8;
+    if same(name, b"cells") {
+        return Line::Asks(Question::Cells(number));
+    }
+    if same(name, b"bound") {
+        return Line::Asks(Question::Bound(number));
+    }
+    Line::Malformed
+}
+
+// Puts the packets of a word N=K at flow number N; answers whether the word is of that form and the first that names the flow.
+fn take_arrivals(word: &[u8], counts: &mut [u16], named: &mut [bool]) -> bool
+    requires { ⌜ (64 ≡ length (now counts)) × (64 ≡ length (now named)) ⌝ }
+    ensures { λ r. ⌜ (r, now (counts .exit), now (named .exit)) ≡ takenOf (now (word .entry)) (now (counts .entry)) (now (named .entry)) ⌝ }
+{
+    let sign = find(word, 0, b'=');
     if sign == word.len() {
         return false;
     }
-    let flow = decimal(&word[0..sign], 63);
+    let flow = read_number(&word[0..sign], 63);
     let count_start = sign + 1;
-    let count = decimal(&word[count_start..], 65535);
+    let count = read_number(&word[count_start..], 65535);
     if !flow.given {
         return false;
     }
@@ -134,68 +182,88 @@ fn take_arrivals(word: &[u8], arrivals: &mut [u16], named: &mut [bool]) -> bool
         return false;
     }
     named[n] = true;
-    arrivals[n] = count.value as u16;
+    counts[n] = count.value as u16;
     true
 }
 
-// Puts the packets of all words from `from` on at their flow numbers; answers whether each is of the form N=K and names a flow of its own.
-fn read_arrivals(line: &[u8], from: usize, arrivals: &mut [u16]) -> bool
-    requires { ⌜ 64 ≡ length (now arrivals) ⌝ }
+// The packets of all words from `from` on, if each is of the form N=K and names a flow of its own.
+fn read_arrivals(line: &[u8], from: usize) -> Arrivals
+    ensures { λ r. ⌜ (r .given, r .counts) ≡ arrivalsOf (wordsOf (drop from (now (line .entry)))) ⌝ }
 {
+    let mut counts = [0u16; 64];
     let mut named = [false; 64];
     let mut at = from;
-    while at < line.len() {
+    while !blank(line, at) {
         let word = next_word(line, at);
         let start = word.start;
         let end = word.end;
-        if start == end {
-            return true;
-        }
-        if !take_arrivals(&line[start..end], arrivals, &mut named) {
-            return false;
+        if !take_arrivals(&line[start..end], &mut counts, &mut named) {
+            return Arrivals {
+                given: false,
+                counts: [0u16; 64],
+            };
         }
         at = end;
     }
-    true
+    Arrivals {
+        given: true,
+        counts,
+    }
 }
 
-fn slot_line(line: &[u8], from: usize, arrivals: &mut [u16]) -> Line
-    requires { ⌜ 64 ≡ length (now arrivals) ⌝ }
+fn slot_line(line: &[u8], from: usize) -> Asked
+    ensures { λ r. ⌜ r ≡ slotOf (wordsOf (drop from (now (line .entry)))) ⌝ }
 {
     let slot = next_operand(line, from, 4294967295);
     if !slot.given {
-        return Line::Malformed;
+        return without_arrivals(Line::Malformed);
     }
-    if !read_arrivals(line, slot.next, arrivals) {
-        return Line::Malformed;
+    let read = read_arrivals(line, slot.next);
+    if !read.given {
+        return without_arrivals(Line::Malformed);
     }
-    Line::Makes(Call::Slot(slot.value))
+    let counts = read.counts;
+    Asked {
+        line: Line::Makes(Call::Slot(slot.value)),
+        arrivals: counts,
+    }
 }
 
-// Reads a line. The arrivals of a slot are put into the 64 numbers that are lent; those of flows that the line does not name stay as they are.
-// With any other count of numbers no line can be read.
-pub fn read_line(line: &[u8], arrivals: &mut [u16]) -> Line {
-    if arrivals.len() != 64 {
-        return Line::Malformed;
+// A line of any name but `slot`, whose operands stand from `from` on.
+fn other_line(name: &[u8], line: &[u8], from: usize) -> Line
+    ensures { λ r. ⌜ r ≡ otherOf (now (name .entry)) (wordsOf (drop from (now (line .entry)))) ⌝ }
+{
+    if blank(line, from) {
+        return lone_line(name);
     }
-    if passed_over(line) {
-        return Line::PassedOver;
+    if same(name, b"admit") {
+        return admit_line(line, from);
+    }
+    if same(name, b"release") {
+        return release_line(line, from);
+    }
+    if same(name, b"sender") {
+        return sender_line(line, from);
+    }
+    flow_line(name, line, from)
+}
+
+// What the line asks for. Its first word names it; without a word, or with `#` as its first byte, the line is passed over.
+pub fn read_line(line: &[u8]) -> Asked
+    ensures { λ r. ⌜ r ≡ askedOf (now (line .entry)) ⌝ }
+{
+    if remark(line) {
+        return without_arrivals(Line::PassedOver);
     }
     let word = next_word(line, 0);
     let start = word.start;
     let end = word.end;
+    if start == end {
+        return without_arrivals(Line::PassedOver);
+    }
     let name = &line[start..end];
-    if blank(line, end) {
-        return lone_line(name);
-    }
     if same(name, b"slot") {
-        return slot_line(line, end, arrivals);
+        return slot_line(line, end);
     }
-    if same(name, b"admit") {
-        return admit_line(line, end);
-    }
-    if same(name, b"sender") {
-        return sender_line(line, end);
-    }
-    flow_line(name, line, end)
+    without_arrivals(other_line(name, line, end))
 }

@@ -4,6 +4,7 @@ use Prim.Native.Nat.{ℕ, zero, suc, _+_}
 use mathlib.Core.Path.{_≡_}
 use mathlib.Core.List.{List, [], _∷_, _++_}
 use lib.ListN.{length, replicate}
+use Prim.Native.String.{String}
 use Rattle.pinwheel.specs.Outcome.{Outcome, Ruling, accepted, refused}
 use Rattle.pinwheel.specs.Deal.{dealt}
 use Rattle.site.specs.declared.Site.{Site}
@@ -13,6 +14,8 @@ use Rattle.schedule.specs.Schedule.{listed}
 use Rattle.schedule.specs.Judge.{withSite}
 use Rattle.reader.specs.Read.{readOf}
 use Rattle.writer.specs.Write.{scheduleOf, scheduleBytes, writtenIf}
+use Rattle.text.specs.Letters.{letters}
+use Rattle.report.specs.Report.{reportOf}
 use Rattle.admission.specs.Calls.{admitOf}
 use Rattle.simulation.specs.Hops.{own}
 use Rattle.simulation.specs.Slot.{slotOf}
@@ -24,6 +27,8 @@ pub data Row : Type 0 where
   reads : List ℕ → Ruling × Site → Row
   -- A plan's bytes and those of its schedule.
   schedules : List ℕ → List ℕ → Row
+  -- A plan's bytes and all that is printed of them.
+  prints : List ℕ → String → Row
   -- A plan's bytes, counters and a flow, and what admitting it on the site read answers, the site that it gives and the counters then.
   admits : List ℕ → List ℕ → Flow → Ruling × Site × List ℕ → Row
   -- A plan's bytes, counters, the arrivals of each of so many slots, which have the numbers from 0 on, and what the last of them answers and leaves.
@@ -76,6 +81,7 @@ abbrev pub Holds : Row → Type 0
 Holds (deals gaps offsets periods result) = dealt 2 gaps offsets periods ≡ result
 Holds (reads plan result) = withSite (readOf plan) ≡ result
 Holds (schedules plan bytes) = scheduleFor (withSite (readOf plan)) (replicate (length bytes) 0) ≡ (accepted (length bytes), bytes)
+Holds (prints plan lines) = reportOf plan ≡ letters lines
 Holds (admits plan cells flow result) = admitOf (withSite (readOf plan) .1) cells flow ≡ result
 Holds (plays plan cells arrivals n result) = played (withSite (readOf plan) .1) arrivals n 0 (accepted tt, cells) ≡ result
 
@@ -91,7 +97,10 @@ table =
     deals (4 ∷ 4 ∷ 6 ∷ 6 ∷ 6 ∷ []) (21 ∷ 22 ∷ 23 ∷ 24 ∷ 25 ∷ []) (31 ∷ 32 ∷ 33 ∷ 34 ∷ 35 ∷ [])
     (refused 11 0, (21 ∷ 22 ∷ 23 ∷ 24 ∷ 25 ∷ []), (31 ∷ 32 ∷ 33 ∷ 34 ∷ 35 ∷ [])) ∷
     schedules (planP 9 7) (17 ∷ 1 ∷ 0 ∷ 0 ∷ 4 ∷ 0 ∷ 17 ∷ 2 ∷ 1 ∷ 0 ∷ 4 ∷ 0 ∷ 17 ∷ 3 ∷ 0 ∷ 0 ∷ 3 ∷ 0 ∷ 255 ∷ []) ∷
+    prints (planP 9 7)
+    "link 1 parent 0 base 4 offset 0 period 4\nlink 2 parent 0 base 4 offset 1 period 4\nlink 3 parent 1 base 3 offset 0 period 3\nflow 0 node 3 rate 3 deadline 7 bound 7\naccepted links 3 flows 1\n" ∷
     reads (planP 9 6) (refused 13 0, emptySite) ∷
+    prints (planP 9 6) "refused 13 0\n" ∷
     reads (planP 8 7) (refused 12 3, emptySite) ∷
     admits (planP 9 7) (counters 576 0) (record { number = 5; entry = 2; rate = 3; deadline = 6 })
     (accepted tt, admittedP 3 6, counters 45 0 ++ (replicate 9 0 ++ counters 522 54)) ∷

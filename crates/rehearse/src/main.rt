@@ -81,24 +81,31 @@ fn show(site: Site) {
     }
 }
 
-// The bytes of the longest plan take 2,288 bytes in hexadecimal.
-fn print_answer(question: Question, site: Site, counters: &[u32]) {
-    let mut line = [0u8; 4096];
-    let n = match question {
+// Puts the answer to a question that takes one line; answers how many bytes it has. For `show`, which prints several, it puts nothing.
+fn put_answer(out: &mut [u8], question: Question, site: Site, counters: &[u32]) -> usize {
+    match question {
         Question::Sender(parent, slot) => {
             let lookup = simulation::sender(site, parent, slot);
-            call_answers::put_lookup(&mut line, 0, lookup)
+            call_answers::put_lookup(out, 0, lookup)
         }
-        Question::Cells(number) => call_answers::put_cells(&mut line, 0, counters, number),
-        Question::Bound(number) => call_answers::put_bound(&mut line, 0, site, number),
-        Question::Plan => call_answers::put_plan(&mut line, 0, site),
-        Question::Schedule => call_answers::put_schedule(&mut line, 0, site),
-        Question::Show => {
-            show(site);
-            return;
+        Question::Cells(number) => call_answers::put_cells(out, 0, counters, number),
+        Question::Bound(number) => call_answers::put_bound(out, 0, site, number),
+        Question::Plan => call_answers::put_plan(out, 0, site),
+        Question::Schedule => call_answers::put_schedule(out, 0, site),
+        Question::Show => 0,
+    }
+}
+
+// The bytes of the longest plan take 2,288 bytes in hexadecimal.
+fn print_answer(question: Question, site: Site, counters: &[u32]) {
+    match question {
+        Question::Show => show(site),
+        _ => {
+            let mut line = [0u8; 4096];
+            let n = put_answer(&mut line, question, site, counters);
+            print_line(&line, n);
         }
-    };
-    print_line(&line, n);
+    }
 }
 
 // Prints the answer to a line; answers the site from here on.

@@ -3,38 +3,45 @@
 // reads to, each a field, an index and a value. A line that begins with `#` is printed as it stands.
 use site::Site;
 
-// What the check says, and what the writers, one after the other, answer and leave in the slice.
-fn show(site: Site, out: &mut [u8]) {
+fn put_check(out: &mut [u8], site: Site) -> usize {
     if limits::passes(site) {
-        io::write_all(1, b"passes");
-    } else {
-        io::write_all(1, b"does not pass");
+        return text::put(out, 0, b"passes");
     }
-    let plan_written = writer::write_plan(site, out);
-    test_text::print_left(b", plan", plan_written, out);
-    let schedule_written = writer::write_schedule(site, out);
-    test_text::print_left(b", schedule", schedule_written, out);
-    io::write_all(1, b"\n");
+    text::put(out, 0, b"does not pass")
 }
 
-fn show_case(line: &[u8], site: Site) {
+// What the check says, and what the writers, one after the other, answer and leave in the slice.
+fn put_case(out: &mut [u8], site: Site, space: &mut [u8]) -> usize {
+    let judged = put_check(out, site);
+    let plan_written = writer::write_plan(site, space);
+    let planned = test_text::put_left(out, judged, b", plan", plan_written, space);
+    let schedule_written = writer::write_schedule(site, space);
+    test_text::put_left(out, planned, b", schedule", schedule_written, space)
+}
+
+fn put_line(out: &mut [u8], line: &[u8], site: Site) -> usize {
+    if test_text::begins(line, b'#') {
+        return text::put(out, 0, line);
+    }
     let room = test_text::next_number(line, 0);
     let n = room.value;
-    let mut out = test_text::numbered();
+    let mut space = test_text::numbered();
     let next = test_sites::altered(site, line, room.next);
-    if n <= 64 {
-        show(next, &mut out[..n]);
+    if 64 < n {
+        return 0;
     }
+    put_case(out, next, &mut space[0..n])
 }
 
-// Answers the site to be altered from here on.
+// Answers the site to be altered from here on. 512 bytes have room for every line: a byte that is left takes three of them, twice.
 fn show_line(line: &[u8], site: Site) -> Site {
     if test_text::begins(line, b'P') {
         return test_sites::read_site(line);
     }
-    if !test_text::echo(line) {
-        show_case(line, site);
-    }
+    let mut out = [0u8; 512];
+    let told = put_line(&mut out, line, site);
+    let size = text::put(&mut out, told, b"\n");
+    printing::print_front(&out, size);
     site
 }
 
@@ -50,7 +57,7 @@ fn show_lines(text: &[u8]) {
 }
 
 fn main() {
-    let mut text = test_text::input_space();
+    let mut text = [0u8; 131072];
     let n = io::read_full(0, &mut text);
     show_lines(&text[..n]);
 }

@@ -13,6 +13,11 @@ struct Live {
     counters: [u32; 577],
 }
 
+// The low 32 bits of a number.
+fn low32(value: usize) -> u32 {
+    (value % 4294967296) as u32
+}
+
 // The first five numbers of the line, 0 for each that is missing.
 fn operands(line: &[u8]) -> [usize; 5] {
     let mut numbers = [0usize; 5];
@@ -42,20 +47,25 @@ fn different() -> [u32; 577] {
 fn given(line: &[u8]) -> [u32; 577] {
     let number = test_text::next_number(line, 0);
     if number.found {
-        return [test_text::low32(number.value); 577];
+        return [low32(number.value); 577];
     }
     different()
 }
 
+fn print_line(out: &mut [u8], size: usize) {
+    let ended = text::put(out, size, b"\n");
+    printing::print_front(out, ended);
+}
+
 // Prints what a call answered and changed; answers the site and the counters that it left.
-fn called(live: Live, judged: Judged, counters: [u32; 577]) -> Live {
+fn called(out: &mut [u8], live: Live, judged: Judged, counters: [u32; 577]) -> Live {
     let verdict = judged.verdict;
     let site = judged.site;
     let counters_before = live.counters;
-    report::print_verdict(verdict);
-    test_changes::print_site(live.site, site);
-    test_changes::print_counters(counters_before, counters);
-    io::write_all(1, b"\n");
+    let told = report::put_verdict(out, 0, verdict);
+    let changed = test_changes::put_site(out, told, live.site, site);
+    let size = test_changes::put_counters(out, changed, counters_before, counters);
+    print_line(out, size);
     Live { site, counters }
 }
 
@@ -75,24 +85,24 @@ fn judged(line: &[u8], site: Site, counters: &mut [u32], numbers: [usize; 5]) ->
 }
 
 // Makes the call of a line with `A` or `R`, whose first operand says how many counters are lent.
-fn call(line: &[u8], live: Live) -> Live {
+fn call(out: &mut [u8], line: &[u8], live: Live) -> Live {
     let numbers = operands(line);
     let lent = numbers[0];
     if 577 < lent {
         return live;
     }
     let mut counters = live.counters;
-    let answer = judged(line, live.site, &mut counters[..lent], numbers);
-    called(live, answer, counters)
+    let answer = judged(line, live.site, &mut counters[0..lent], numbers);
+    called(out, live, answer, counters)
 }
 
-fn look_up(line: &[u8], site: Site) {
+fn look_up(out: &mut [u8], line: &[u8], site: Site) {
     let numbers = operands(line);
     let parent = test_text::low8(numbers[0]);
-    let slot = test_text::low32(numbers[1]);
+    let slot = low32(numbers[1]);
     let lookup = simulation::sender(site, parent, slot);
-    call_answers::print_lookup(lookup);
-    io::write_all(1, b"\n");
+    let size = call_answers::put_lookup(out, 0, lookup);
+    print_line(out, size);
 }
 
 fn with_site(live: Live, site: Site) -> Live {
@@ -111,22 +121,22 @@ fn with_counter(line: &[u8], live: Live) -> Live {
     let index = numbers[0];
     let mut counters = live.counters;
     if index < 577 {
-        counters[index] = test_text::low32(numbers[1]);
+        counters[index] = low32(numbers[1]);
     }
     with_counters(live, counters)
 }
 
 // Prints what a start or a slot answered and changed; answers the site with the counters that it left.
-fn run(live: Live, verdict: Verdict, counters: [u32; 577]) -> Live {
+fn run(out: &mut [u8], live: Live, verdict: Verdict, counters: [u32; 577]) -> Live {
     let counters_before = live.counters;
-    report::print_verdict(verdict);
-    test_changes::print_counters(counters_before, counters);
-    io::write_all(1, b"\n");
+    let told = report::put_verdict(out, 0, verdict);
+    let size = test_changes::put_counters(out, told, counters_before, counters);
+    print_line(out, size);
     with_counters(live, counters)
 }
 
 // Makes the start of a line with `T`, whose operand says how many counters are lent.
-fn start(line: &[u8], live: Live) -> Live {
+fn start(out: &mut [u8], line: &[u8], live: Live) -> Live {
     let numbers = operands(line);
     let lent = numbers[0];
     if 577 < lent {
@@ -134,7 +144,7 @@ fn start(line: &[u8], live: Live) -> Live {
     }
     let mut counters = live.counters;
     let verdict = simulation::start(live.site, &mut counters[0..lent]);
-    run(live, verdict, counters)
+    run(out, live, verdict, counters)
 }
 
 // The arrivals with those of one flow number, if there is a place for it.
@@ -163,7 +173,7 @@ fn arrivals_of(line: &[u8], from: usize) -> [u16; 65] {
 }
 
 // Makes the slot of a line with `S`, whose first two operands say how many counters and arrivals are lent.
-fn slot(line: &[u8], live: Live) -> Live {
+fn slot(out: &mut [u8], line: &[u8], live: Live) -> Live {
     let counters_lent = test_text::next_number(line, 0);
     let arrivals_lent = test_text::next_number(line, counters_lent.next);
     let number = test_text::next_number(line, arrivals_lent.next);
@@ -177,35 +187,39 @@ fn slot(line: &[u8], live: Live) -> Live {
     }
     let arrivals = arrivals_of(line, number.next);
     let mut counters = live.counters;
-    let slot_number = test_text::low32(number.value);
+    let slot_number = low32(number.value);
     let verdict = simulation::slot(
         live.site,
         &mut counters[0..lent],
         &arrivals[0..given],
         slot_number,
     );
-    run(live, verdict, counters)
+    run(out, live, verdict, counters)
 }
 
-// Answers the site and the counters from here on.
+// Answers the site and the counters from here on. 16,384 bytes have room for every line: each of 572 entries of a site takes eleven of them at most, each of
+// 577 counters fifteen.
 fn show_line(line: &[u8], live: Live) -> Live {
-    if test_text::echo(line) {
-        return live;
-    }
+    let mut out = [0u8; 16384];
     if line.len() == 0 {
         return live;
     }
     let mark = line[0];
     match mark {
+        b'#' => {
+            let size = text::put(&mut out, 0, line);
+            print_line(&mut out, size);
+            live
+        }
         b'P' => with_site(live, test_sites::read_site(line)),
         b'X' => with_site(live, test_sites::altered(live.site, line, 0)),
         b'C' => with_counters(live, given(line)),
         b'K' => with_counter(line, live),
-        b'A' | b'R' => call(line, live),
-        b'T' => start(line, live),
-        b'S' => slot(line, live),
+        b'A' | b'R' => call(&mut out, line, live),
+        b'T' => start(&mut out, line, live),
+        b'S' => slot(&mut out, line, live),
         b'L' => {
-            look_up(line, live.site);
+            look_up(&mut out, line, live.site);
             live
         }
         _ => live,
@@ -227,7 +241,7 @@ fn show_lines(text: &[u8]) {
 }
 
 fn main() {
-    let mut text = test_text::input_space();
+    let mut text = [0u8; 131072];
     let n = io::read_full(0, &mut text);
     show_lines(&text[..n]);
 }

@@ -5,29 +5,36 @@ ghost use Prim.Native.Nat.{_+_, _≤_};
 ghost use mathlib.Core.Path.{_≡_};
 ghost use lib.ListN.{length};
 
-fn print_list(name: &[u8], list: &[u16]) {
-    io::write_all(1, name);
+// Each entry with a space before it.
+fn put_list(out: &mut [u8], at: usize, list: &[u16]) -> usize {
+    let mut taken = at;
     let mut i = 0;
     while i < list.len() {
-        report::print_field(b" ", list[i] as u64);
+        taken = put_entry(out, taken, list[i]);
         i += 1;
     }
+    taken
 }
 
-fn print_answer(answer: Answer) {
+fn put_entry(out: &mut [u8], at: usize, entry: u16) -> usize {
+    text::put_field(out, at, b" ", entry as u64)
+}
+
+fn put_answer(out: &mut [u8], answer: Answer) -> usize {
     match answer {
-        Answer::Base(base) => report::print_field(b"base ", base as u64),
-        Answer::Refused(number, place) => report::print_refusal(b"refused ", number, place),
+        Answer::Base(base) => text::put_field(out, 0, b"base ", base as u64),
+        Answer::Refused(number, place) => report::put_refusal(out, 0, number, place),
     }
 }
 
-// Deals the gaps into the two lists, and prints the answer and the lists.
-fn show(gaps: &[u16], offsets: &mut [u16], periods: &mut [u16]) {
+// Deals the gaps into the two lists, and puts the answer and the lists.
+fn put_deal(out: &mut [u8], gaps: &[u16], offsets: &mut [u16], periods: &mut [u16]) -> usize {
     let answer = pinwheel::deal(gaps, offsets, periods);
-    print_answer(answer);
-    print_list(b" offsets", offsets);
-    print_list(b" periods", periods);
-    io::write_all(1, b"\n");
+    let told = put_answer(out, answer);
+    let named = text::put(out, told, b" offsets");
+    let placed = put_list(out, named, offsets);
+    let spaced = text::put(out, placed, b" periods");
+    put_list(out, spaced, periods)
 }
 
 // The numbers from `first` on, so that every entry that the call leaves alone can be told.
@@ -46,7 +53,6 @@ fn numbered(first: u16) -> [u16; 66]
 
 // Puts the line's numbers from `start` on into the list; answers how many there are.
 fn parse_gaps(line: &[u8], start: usize, gaps: &mut [u16]) -> usize
-    requires { ⌜ start ≤ length (now line) ⌝ }
     ensures { λ r. ⌜ r ≤ length (now (gaps .exit)) ⌝ }
 {
     let mut n = 0;
@@ -63,7 +69,7 @@ fn parse_gaps(line: &[u8], start: usize, gaps: &mut [u16]) -> usize
     n
 }
 
-fn show_case(line: &[u8]) {
+fn put_case(out: &mut [u8], line: &[u8]) -> usize {
     let first = test_text::next_number(line, 0);
     let second = test_text::next_number(line, first.next);
     let offsets_length = first.value;
@@ -72,21 +78,33 @@ fn show_case(line: &[u8]) {
     let mut offsets = numbered(500);
     let mut periods = numbered(700);
     let n = parse_gaps(line, second.next, &mut gaps);
-    if offsets_length <= 66 {
-        if periods_length <= 66 {
-            show(
-                &gaps[..n],
-                &mut offsets[..offsets_length],
-                &mut periods[..periods_length],
-            );
-        }
+    if 66 < offsets_length {
+        return 0;
     }
+    if 66 < periods_length {
+        return 0;
+    }
+    put_deal(
+        out,
+        &gaps[0..n],
+        &mut offsets[0..offsets_length],
+        &mut periods[0..periods_length],
+    )
 }
 
-fn show_line(line: &[u8]) {
-    if !test_text::echo(line) {
-        show_case(line);
+fn put_line(out: &mut [u8], line: &[u8]) -> usize {
+    if test_text::begins(line, b'#') {
+        return text::put(out, 0, line);
     }
+    put_case(out, line)
+}
+
+// 1,024 bytes have room for every line: each of 132 entries takes six of them at most.
+fn show_line(line: &[u8]) {
+    let mut out = [0u8; 1024];
+    let told = put_line(&mut out, line);
+    let size = text::put(&mut out, told, b"\n");
+    printing::print_front(&out, size);
 }
 
 fn show_lines(text: &[u8]) {
@@ -99,7 +117,7 @@ fn show_lines(text: &[u8]) {
 }
 
 fn main() {
-    let mut text = test_text::input_space();
+    let mut text = [0u8; 131072];
     let n = io::read_full(0, &mut text);
     show_lines(&text[..n]);
 }

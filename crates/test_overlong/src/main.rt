@@ -1,4 +1,6 @@
 // `slotplan` on an input that is longer than its buffer.
 fn main() {
-    report::print_input();
+    let mut bytes = [0u8; 1024];
+    let n = io::read_full(0, &mut bytes);
+    printing::print_report(&bytes[..n]);
 }

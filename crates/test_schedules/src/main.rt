@@ -4,10 +4,18 @@
 use schedule::Verdict;
 use schedule_file::Reading;
 use schedule_file::Schedule;
+use test_text::Change;
 
-// The schedule with one entry changed, or as it is where there is no such entry or the value is too large. The number of links has no index.
-fn changed(schedule: Schedule, field: usize, index: usize, value: usize) -> Schedule {
+// The schedule with one entry changed, or as it is where the change is not complete, there is no such entry or the value is too large. The number of links has
+// no index.
+fn changed(schedule: Schedule, change: Change) -> Schedule {
+    let field = change.field;
+    let index = change.index;
+    let value = change.value;
     let mut next = schedule;
+    if !change.found {
+        return next;
+    }
     if field == 0 {
         if value <= 255 {
             next.links = test_text::low8(value);
@@ -28,82 +36,98 @@ fn changed(schedule: Schedule, field: usize, index: usize, value: usize) -> Sche
     next
 }
 
-// The schedule with all the changes of a line made in turn; the last one is passed over if it is not complete.
+// The schedule with all the changes of a line made in turn.
 fn altered(schedule: Schedule, line: &[u8], start: usize) -> Schedule {
     let mut next = schedule;
     let mut at = start;
     while at < line.len() {
         let change = test_text::next_change(line, at);
-        if change.found {
-            let more = changed(next, change.field, change.index, change.value);
-            next = more;
-        }
+        let more = changed(next, change);
+        next = more;
         at = change.next;
     }
     next
 }
 
-fn write(schedule: Schedule, out: &mut [u8]) {
-    let written = writer::write_schedule_of(schedule, out);
-    test_text::print_left(b"schedule", written, out);
-    io::write_all(1, b"\n");
+fn put_left(out: &mut [u8], schedule: Schedule, space: &mut [u8]) -> usize {
+    let written = writer::write_schedule_of(schedule, space);
+    test_text::put_left(out, 0, b"schedule", written, space)
 }
 
-fn show_writing(line: &[u8], schedule: Schedule) {
+fn put_writing(out: &mut [u8], line: &[u8], schedule: Schedule) -> usize {
     let room = test_text::next_number(line, 0);
     let n = room.value;
-    let mut out = test_text::numbered();
+    let mut space = test_text::numbered();
     let next = altered(schedule, line, room.next);
-    if n <= 64 {
-        write(next, &mut out[..n]);
+    if 64 < n {
+        return 0;
     }
+    put_left(out, next, &mut space[0..n])
 }
 
 // Writes the schedule into a slice of just the file's length and compares.
-fn print_again(bytes: &[u8], schedule: Schedule, out: &mut [u8]) {
-    let written = writer::write_schedule_of(schedule, out);
-    test_text::print_written(b" written", written);
-    if test_text::differing(bytes, out) == 0 {
-        io::write_all(1, b" equal");
+fn put_again(
+    out: &mut [u8],
+    at: usize,
+    bytes: &[u8],
+    schedule: Schedule,
+    space: &mut [u8],
+) -> usize {
+    let written = writer::write_schedule_of(schedule, space);
+    let told = test_text::put_written(out, at, b" written", written);
+    if check::same(bytes, space) {
+        return text::put(out, told, b" equal");
     }
+    told
 }
 
-fn print_accepted(bytes: &[u8], schedule: Schedule) {
-    let mut out = test_text::plan_space();
+fn put_accepted(out: &mut [u8], bytes: &[u8], schedule: Schedule) -> usize {
+    let mut space = [0u8; 2048];
     let n = bytes.len();
-    report::print_field(b"accepted links ", schedule.links as u64);
-    if n <= 2048 {
-        print_again(bytes, schedule, &mut out[..n]);
+    let told = text::put_field(out, 0, b"accepted links ", schedule.links as u64);
+    if 2048 < n {
+        return told;
     }
+    put_again(out, told, bytes, schedule, &mut space[0..n])
 }
 
-fn print_reading(bytes: &[u8], read: Reading) {
+fn put_reading(out: &mut [u8], bytes: &[u8], read: Reading) -> usize {
     let verdict = read.verdict;
     match verdict {
-        Verdict::Accepted => print_accepted(bytes, read.schedule),
-        Verdict::Refused(_, _) => report::print_verdict(verdict),
+        Verdict::Accepted => put_accepted(out, bytes, read.schedule),
+        Verdict::Refused(number, place) => report::put_refusal(out, 0, number, place),
     }
-    io::write_all(1, b"\n");
 }
 
-fn read_file(line: &[u8]) -> Schedule {
-    let mut bytes = test_text::plan_space();
+fn print_line(out: &mut [u8], size: usize) {
+    let ended = text::put(out, size, b"\n");
+    printing::print_front(out, ended);
+}
+
+// Answers the schedule that the file of the line reads to.
+fn show_file(out: &mut [u8], line: &[u8]) -> Schedule {
+    let mut bytes = [0u8; 2048];
     let n = test_text::parse_hex(line, &mut bytes);
-    let read = schedule_file::read_schedule(&bytes[..n]);
-    print_reading(&bytes[..n], read);
+    let read = schedule_file::read_schedule(&bytes[0..n]);
+    let size = put_reading(out, &bytes[0..n], read);
+    print_line(out, size);
     read.schedule
 }
 
-// Answers the schedule to be altered from here on.
+// Answers the schedule to be altered from here on. 512 bytes have room for every line: a byte that is left takes three of them.
 fn show_line(line: &[u8], schedule: Schedule) -> Schedule {
+    let mut out = [0u8; 512];
+    if test_text::begins(line, b'#') {
+        let size = text::put(&mut out, 0, line);
+        print_line(&mut out, size);
+        return schedule;
+    }
     if test_text::begins(line, b'W') {
-        show_writing(line, schedule);
+        let size = put_writing(&mut out, line, schedule);
+        print_line(&mut out, size);
         return schedule;
     }
-    if test_text::echo(line) {
-        return schedule;
-    }
-    read_file(line)
+    show_file(&mut out, line)
 }
 
 fn show_lines(text: &[u8]) {
@@ -118,7 +142,7 @@ fn show_lines(text: &[u8]) {
 }
 
 fn main() {
-    let mut text = test_text::input_space();
+    let mut text = [0u8; 131072];
     let n = io::read_full(0, &mut text);
     show_lines(&text[..n]);
 }

@@ -1,7 +1,8 @@
--- What the test programs print of a writer's answer.
-use Prim.Native.Nat.{ℕ}
+-- What the test programs print of a writer's answer, and the bytes that they lend to a writer.
+use Prim.Native.Nat.{ℕ, _+_}
 use mathlib.Core.List.{List, [], _∷_, _++_}
 use Rattle.pinwheel.specs.Outcome.{Outcome, accepted, refused}
+use Rattle.pinwheel.specs.Search.{joined}
 use Rattle.text.specs.Letters.{letters}
 use Rattle.text.specs.Decimal.{decimal}
 use Rattle.text.specs.Listed.{each, spacedHex}
@@ -15,3 +16,7 @@ writtenText name (refused number place) = name ∷ letters " " ∷ refusal numbe
 -- That, and what the slice holds then.
 unfoldable pub leftText : List ℕ → Outcome ℕ → List ℕ → List (List ℕ)
 leftText name o bytes = writtenText name o ++ (letters ":" ∷ each spacedHex bytes)
+
+-- 64 bytes: byte i is 100 + i.
+unfoldable pub numberedBytes : List ℕ
+numberedBytes = joined (λ i. (100 + i) ∷ []) 64 0

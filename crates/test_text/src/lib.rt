@@ -1,39 +1,19 @@
 // What the test programs share: lines of text with plans in hexadecimal or numbers in decimal, and what they print.
 use writer::Written;
-ghost use Prim.Native.Nat.{_%_, _≤_, _<_, min};
+ghost use Prim.Native.Nat.{_%_, _-_, _*_, _+_, _<_};
 ghost use mathlib.Core.Path.{_≡_};
-ghost use lib.ListN.{length};
+ghost use lib.ListN.{take};
+ghost use Rattle.text.specs.Decimal.{isDigit, valueOf};
 ghost use Rattle.text.specs.Put.{puts};
 ghost use Rattle.writer.specs.Write.{writing};
-ghost use Rattle.test_text.specs.Printed.{writtenText, leftText};
+ghost use Rattle.test_text.specs.Lines.{beginsWith, lineEnd, numberStart, numberEnd, numberFrom, changeFrom};
+ghost use Rattle.test_text.specs.Hex.{hexValue, hexBytes, stored, filled};
+ghost use Rattle.test_text.specs.Printed.{writtenText, leftText, numberedBytes};
 
-// A decimal number of a line and the index behind its last digit. Where there is none, `found` is false and the index is the line's length.
-pub struct Number {
-    pub found: bool,
-    pub value: usize,
-    pub next: usize,
-}
-
-// Zeros with room for a program's whole input, and for one plan; the contracts give only the lengths.
-pub fn input_space() -> [u8; 131072]
-    ensures { λ r. ⌜ 131072 ≡ length r ⌝ }
-{
-    [0; 131072]
-}
-
-pub fn plan_space() -> [u8; 2048]
-    ensures { λ r. ⌜ 2048 ≡ length r ⌝ }
-{
-    [0; 2048]
-}
-
-// The index of the end of the line that begins at `start`, and the text's length where nothing begins there.
+// The index of the end of the line that begins at `start`.
 pub fn line_end(text: &[u8], start: usize) -> usize
-    ensures { λ r. ⌜ (min start (length (now (text .entry))) ≤ r) × (r ≤ length (now (text .entry))) ⌝ }
+    ensures { λ r. ⌜ r ≡ lineEnd (now (text .entry)) start ⌝ }
 {
-    if text.len() < start {
-        return text.len();
-    }
     let mut end = start;
     while end < text.len() {
         if text[end] == b'\n' {
@@ -45,7 +25,9 @@ pub fn line_end(text: &[u8], start: usize) -> usize
 }
 
 // Whether the line begins with this byte.
-pub fn begins(line: &[u8], byte: u8) -> bool {
+pub fn begins(line: &[u8], byte: u8) -> bool
+    ensures { λ r. ⌜ r ≡ beginsWith (now (line .entry)) byte ⌝ }
+{
     if line.len() == 0 {
         return false;
     }
@@ -54,7 +36,7 @@ pub fn begins(line: &[u8], byte: u8) -> bool {
 
 // The value of a hexadecimal digit, 16 for any other byte.
 fn digit(c: u8) -> u8
-    ensures { λ r. ⌜ r ≤ 16 ⌝ }
+    ensures { λ r. ⌜ r ≡ hexValue c ⌝ }
 {
     if c < b'0' {
         return 16;
@@ -72,16 +54,16 @@ fn digit(c: u8) -> u8
 }
 
 // The byte of two hexadecimal digits.
-fn joined(high: u8, low: u8) -> u8
+fn byte_of(high: u8, low: u8) -> u8
     requires { ⌜ (high < 16) × (low < 16) ⌝ }
+    ensures { λ r. ⌜ r ≡ high * 16 + low ⌝ }
 {
     high * 16 + low
 }
 
 // Puts the byte after the first n if there is room; answers how many there are then.
 fn store(bytes: &mut [u8], n: usize, byte: u8) -> usize
-    requires { ⌜ n ≤ length (now bytes) ⌝ }
-    ensures { λ r. ⌜ r ≤ length (now (bytes .exit)) ⌝ }
+    ensures { λ r. ⌜ (r, now (bytes .exit)) ≡ stored (n, now (bytes .entry)) byte ⌝ }
 {
     if n < bytes.len() {
         bytes[n] = byte;
@@ -90,36 +72,44 @@ fn store(bytes: &mut [u8], n: usize, byte: u8) -> usize
     n
 }
 
-// The bytes that the line's pairs of hexadecimal digits stand for; answers how many there are.
+// The bytes that the line's pairs of hexadecimal digits stand for, as many as there is room for; answers how many these are.
 pub fn parse_hex(line: &[u8], bytes: &mut [u8]) -> usize
-    ensures { λ r. ⌜ r ≤ length (now (bytes .exit)) ⌝ }
+    ensures { λ r. ⌜ (r, now (bytes .exit)) ≡ filled (hexBytes (now (line .entry))) (now (bytes .entry)) ⌝ }
 {
     let mut n = 0;
     let mut high: u8 = 16;
     let mut i = 0;
     while i < line.len() {
         let value = digit(line[i]);
+        i += 1;
         if value < 16 {
             if high < 16 {
-                n = store(bytes, n, joined(high, value));
+                n = store(bytes, n, byte_of(high, value));
                 high = 16;
             } else {
                 high = value;
             }
         }
-        i += 1;
     }
     n
 }
 
-// The index of the first decimal digit from `start` on, or the line's length.
+fn is_digit(c: u8) -> bool
+    ensures { λ r. ⌜ r ≡ isDigit c ⌝ }
+{
+    if c < b'0' {
+        return false;
+    }
+    c <= b'9'
+}
+
+// The index of the first decimal digit from `start` on.
 fn number_start(line: &[u8], start: usize) -> usize
-    requires { ⌜ start ≤ length (now line) ⌝ }
-    ensures { λ r. ⌜ (start ≤ r) × (r ≤ length (now (line .entry))) ⌝ }
+    ensures { λ r. ⌜ r ≡ numberStart (now (line .entry)) start ⌝ }
 {
     let mut at = start;
     while at < line.len() {
-        if digit(line[at]) < 10 {
+        if is_digit(line[at]) {
             return at;
         }
         at += 1;
@@ -127,54 +117,71 @@ fn number_start(line: &[u8], start: usize) -> usize
     at
 }
 
-// The number with one digit more. From 1,000,000,000 on further digits are dropped, so that ten are read: enough for every number of 32 bits.
-fn with_digit(value: usize, digit: u8) -> usize
-    requires { ⌜ (value < 10000000000) × (digit < 10) ⌝ }
-    ensures { λ r. ⌜ r < 10000000000 ⌝ }
+// The index behind the decimal digits that begin at `first`.
+fn number_end(line: &[u8], first: usize) -> usize
+    ensures { λ r. ⌜ r ≡ numberEnd (now (line .entry)) first ⌝ }
 {
-    if value < 1000000000 {
-        return value * 10 + digit as usize;
+    let mut at = first;
+    while at < line.len() {
+        if !is_digit(line[at]) {
+            return at;
+        }
+        at += 1;
+    }
+    at
+}
+
+// How far a byte is above the digit 0.
+fn above_zero(c: u8) -> usize
+    ensures { λ r. ⌜ r ≡ c - 48 ⌝ }
+{
+    if c < b'0' {
+        return 0;
+    }
+    (c - b'0') as usize
+}
+
+// What the first ten digits say: enough for every number of 32 bits.
+fn value_of(digits: &[u8]) -> usize
+    ensures { λ r. ⌜ r ≡ valueOf (take 10 (now (digits .entry))) ⌝ }
+{
+    let mut value: usize = 0;
+    let mut i = 0;
+    while i < digits.len() {
+        if i == 10 {
+            return value;
+        }
+        value = value * 10 + above_zero(digits[i]);
+        i += 1;
     }
     value
 }
 
-// No number is found in the line.
-fn no_number(line: &[u8]) -> Number
-    ensures { λ r. ⌜ r .next ≡ length (now (line .entry)) ⌝ }
-{
-    Number {
-        found: false,
-        value: 0,
-        next: line.len(),
-    }
+// A decimal number of a line and the index behind its last digit. Where there is none, `found` is false and the index is the line's length.
+pub struct Number {
+    pub found: bool,
+    pub value: usize,
+    pub next: usize,
 }
 
 // The first decimal number of the line from `start` on.
 pub fn next_number(line: &[u8], start: usize) -> Number
-    ensures { λ r. ⌜ (min start (length (now (line .entry))) ≤ r .next) × (r .next ≤ length (now (line .entry)))
-        × (start < length (now (line .entry)) → start < r .next) ⌝ }
+    ensures { λ r. ⌜ r ≡ numberFrom (now (line .entry)) start ⌝ }
 {
-    if line.len() < start {
-        return no_number(line);
-    }
     let first = number_start(line, start);
-    let mut value: usize = 0;
-    let mut at = first;
-    while at < line.len() {
-        let next = digit(line[at]);
-        if 9 < next {
-            break;
-        }
-        value = with_digit(value, next);
-        at += 1;
-    }
-    if at == first {
-        return no_number(line);
+    if first < line.len() {
+        let next = number_end(line, first);
+        let value = value_of(&line[first..next]);
+        return Number {
+            found: true,
+            value,
+            next,
+        };
     }
     Number {
-        found: true,
-        value,
-        next: at,
+        found: false,
+        value: 0,
+        next: line.len(),
     }
 }
 
@@ -189,7 +196,7 @@ pub struct Change {
 
 // The first change of the line from `start` on.
 pub fn next_change(line: &[u8], start: usize) -> Change
-    ensures { λ r. ⌜ (start < length (now (line .entry)) → start < r .next) × (r .next ≤ length (now (line .entry))) ⌝ }
+    ensures { λ r. ⌜ r ≡ changeFrom (now (line .entry)) start ⌝ }
 {
     let field = next_number(line, start);
     let index = next_number(line, field.next);
@@ -203,7 +210,7 @@ pub fn next_change(line: &[u8], start: usize) -> Change
     }
 }
 
-// The low 8, 16 and 32 bits of a number.
+// The low 8 and 16 bits of a number.
 pub fn low8(value: usize) -> u8
     ensures { λ r. ⌜ r ≡ value % 256 ⌝ }
 {
@@ -216,32 +223,9 @@ pub fn low16(value: usize) -> u16
     (value % 65536) as u16
 }
 
-pub fn low32(value: usize) -> u32
-    ensures { λ r. ⌜ r ≡ value % 4294967296 ⌝ }
-{
-    (value % 4294967296) as u32
-}
-
-// A writer's answer: the number of bytes, or the refusal.
-pub fn put_written(out: &mut [u8], at: usize, name: &[u8], written: Written) -> usize
-    ensures { λ r. ⌜ (r, now (out .exit)) ≡ puts (at, now (out .entry)) (writtenText (now (name .entry)) (writing written)) ⌝ }
-{
-    match written {
-        Written::Length(n) => {
-            let named = text::put(out, at, name);
-            text::put_field(out, named, b" ", n as u64)
-        }
-        Written::Refused(number, place) => {
-            let named = text::put(out, at, name);
-            let spaced = text::put(out, named, b" ");
-            report::put_refusal(out, spaced, number, place)
-        }
-    }
-}
-
 // Byte i is 100 + i, so that every byte that a writer leaves alone can be told.
 pub fn numbered() -> [u8; 64]
-    ensures { λ r. ⌜ 64 ≡ length r ⌝ }
+    ensures { λ r. ⌜ r ≡ numberedBytes ⌝ }
 {
     let mut out = [0u8; 64];
     let mut i: u8 = 0;
@@ -252,6 +236,20 @@ pub fn numbered() -> [u8; 64]
     out
 }
 
+// A writer's answer: the number of bytes, or the refusal.
+pub fn put_written(out: &mut [u8], at: usize, name: &[u8], written: Written) -> usize
+    ensures { λ r. ⌜ (r, now (out .exit)) ≡ puts (at, now (out .entry)) (writtenText (now (name .entry)) (writing written)) ⌝ }
+{
+    let named = text::put(out, at, name);
+    match written {
+        Written::Length(n) => text::put_field(out, named, b" ", n as u64),
+        Written::Refused(number, place) => {
+            let spaced = text::put(out, named, b" ");
+            report::put_refusal(out, spaced, number, place)
+        }
+    }
+}
+
 // A writer's answer, and what the slice holds then.
 pub fn put_left(out: &mut [u8], at: usize, name: &[u8], written: Written, bytes: &[u8]) -> usize
     ensures { λ r. ⌜ (r, now (out .exit))
@@ -260,28 +258,4 @@ pub fn put_left(out: &mut [u8], at: usize, name: &[u8], written: Written, bytes:
     let told = put_written(out, at, name, written);
     let parted = text::put(out, told, b":");
     text::put_hex(out, parted, bytes)
-}
-
-fn differs(a: u8, b: u8) -> usize
-    ensures { λ r. ⌜ r ≤ 1 ⌝ }
-{
-    if a == b {
-        return 0;
-    }
-    1
-}
-
-// How many of the first slice's bytes the second has otherwise, or not at all.
-pub fn differing(a: &[u8], b: &[u8]) -> usize {
-    let n = a.len();
-    if b.len() < n {
-        return n;
-    }
-    let mut count = 0;
-    let mut i = 0;
-    while i < n {
-        count += differs(a[i], b[i]);
-        i += 1;
-    }
-    count
 }

@@ -5,64 +5,73 @@ use site::Site;
 use writer::Written;
 
 // Writes the site into a slice of just the plan's length and compares.
-fn print_again(bytes: &[u8], site: Site, out: &mut [u8]) {
-    let written = writer::write_plan(site, out);
-    test_text::print_written(b" plan", written);
-    if test_text::differing(bytes, out) == 0 {
-        io::write_all(1, b" equal");
+fn put_again(out: &mut [u8], at: usize, bytes: &[u8], site: Site, space: &mut [u8]) -> usize {
+    let written = writer::write_plan(site, space);
+    let told = test_text::put_written(out, at, b" plan", written);
+    if check::same(bytes, space) {
+        return text::put(out, told, b" equal");
     }
+    told
 }
 
 // The first n bytes.
-fn print_first(bytes: &[u8], n: usize) {
-    if n <= bytes.len() {
-        report::print_hex(&bytes[..n]);
+fn put_first(out: &mut [u8], at: usize, bytes: &[u8], n: usize) -> usize {
+    if bytes.len() < n {
+        return at;
     }
+    text::put_hex(out, at, &bytes[0..n])
 }
 
 // 379 bytes are those of 63 links.
-fn print_schedule(site: Site) {
-    let mut out = [0u8; 379];
-    let written = writer::write_schedule(site, &mut out);
-    test_text::print_written(b" schedule", written);
+fn put_schedule(out: &mut [u8], at: usize, site: Site) -> usize {
+    let mut space = [0u8; 379];
+    let written = writer::write_schedule(site, &mut space);
+    let told = test_text::put_written(out, at, b" schedule", written);
     match written {
-        Written::Length(n) => print_first(&out, n),
-        Written::Refused(_, _) => {}
+        Written::Length(n) => put_first(out, told, &space, n),
+        Written::Refused(_, _) => told,
     }
 }
 
-fn print_accepted(bytes: &[u8], site: Site) {
-    let mut out = test_text::plan_space();
+fn put_accepted(out: &mut [u8], bytes: &[u8], site: Site) -> usize {
+    let mut space = [0u8; 2048];
     let n = bytes.len();
-    report::print_field(b"accepted links ", site.links as u64);
-    if n <= 2048 {
-        print_again(bytes, site, &mut out[..n]);
+    let told = text::put_field(out, 0, b"accepted links ", site.links as u64);
+    if 2048 < n {
+        return told;
     }
-    print_schedule(site);
+    let written = put_again(out, told, bytes, site, &mut space[0..n]);
+    put_schedule(out, written, site)
 }
 
-fn print_plan(bytes: &[u8]) {
+fn put_plan(out: &mut [u8], bytes: &[u8]) -> usize {
     let read = reader::read_plan(bytes);
     let verdict = read.verdict;
     match verdict {
-        Verdict::Accepted => print_accepted(bytes, read.site),
-        Verdict::Refused(number, place) => {
-            report::print_refusal(b"refused ", number, place);
-        }
+        Verdict::Accepted => put_accepted(out, bytes, read.site),
+        Verdict::Refused(number, place) => report::put_refusal(out, 0, number, place),
     }
-    io::write_all(1, b"\n");
 }
 
-fn show_plan(line: &[u8]) {
-    let mut bytes = test_text::plan_space();
+fn put_given(out: &mut [u8], line: &[u8]) -> usize {
+    let mut bytes = [0u8; 2048];
     let n = test_text::parse_hex(line, &mut bytes);
-    print_plan(&bytes[..n]);
+    put_plan(out, &bytes[0..n])
 }
 
-fn show_line(line: &[u8]) {
-    if !test_text::echo(line) {
-        show_plan(line);
+fn put_line(out: &mut [u8], line: &[u8]) -> usize {
+    if test_text::begins(line, b'#') {
+        return text::put(out, 0, line);
     }
+    put_given(out, line)
+}
+
+// 2,048 bytes have room for every line: a byte of the schedule takes three of them.
+fn show_line(line: &[u8]) {
+    let mut out = [0u8; 2048];
+    let told = put_line(&mut out, line);
+    let size = text::put(&mut out, told, b"\n");
+    printing::print_front(&out, size);
 }
 
 fn show_lines(text: &[u8]) {
@@ -75,7 +84,7 @@ fn show_lines(text: &[u8]) {
 }
 
 fn main() {
-    let mut text = test_text::input_space();
+    let mut text = [0u8; 131072];
     let n = io::read_full(0, &mut text);
     show_lines(&text[..n]);
 }

@@ -17,7 +17,7 @@ pub enum Written {
 }
 
 // The commands: NODE, FLOW and LINK.
-fn node_command(parent: u8, capacity: u16, gap: u16) -> [u8; 6]
+pub fn node_command(parent: u8, capacity: u16, gap: u16) -> [u8; 6]
     ensures { λ r. ⌜ r ≡ nodeCommand parent capacity gap ⌝ }
 {
     [
@@ -30,7 +30,7 @@ fn node_command(parent: u8, capacity: u16, gap: u16) -> [u8; 6]
     ]
 }
 
-fn flow_command(number: u8, entry: u8, rate: u8, deadline: u16) -> [u8; 6]
+pub fn flow_command(number: u8, entry: u8, rate: u8, deadline: u16) -> [u8; 6]
     ensures { λ r. ⌜ r ≡ flowCommand number entry rate deadline ⌝ }
 {
     [

@@ -1,28 +1,29 @@
--- Right because both lists keep their length, and each word ends behind where the search for it starts; length line - at falls.
-use borrow.Author.Needs.{needs}
+-- Right because each word that is taken leaves the others to the definition; length line - at falls, since a word is left at each turn.
 use Prim.Native.Nat.{_-_}
-use mathlib.Core.Path.{_≡_}
+use mathlib.Core.Path.{sym, _∙_}
+use borrow.Author.Needs.{needs}
+use borrow.Author.Tests.{not-true, not-false}
 use lib.ListN.{length}
+use native.Mathlib.Omega.{arith}
+use Rattle.words.proofs.Laws.Words.{word-begins}
+use Rattle.call_text.proofs.Laws.Arrivals.{Reading, reading-start, reading-end, reading-stopped, reading-more}
 use Rattle.call_text.proofs.read_arrivals.Statement.{statement}
 use Rattle.call_text.proofs.read_arrivals.Tie as tie
 
 abbrev Inv-loop : tie.InvT-loop
-Inv-loop line from arrivals₀ named₀ at₀ arrivals named at = (length arrivals ≡ length arrivals₀) × (64 ≡ length arrivals) × (64 ≡ length named)
+Inv-loop line from counts₀ named₀ at₀ counts named at = Reading line from at counts named
 
 abbrev μ-loop : tie.MeasureT-loop
-μ-loop line from arrivals₀ named₀ at₀ arrivals named at = length line - at
+μ-loop line from counts₀ named₀ at₀ counts named at = length line - at
 
 loop-holds : tie.Need-loop-holds Inv-loop μ-loop
-loop-holds c = search needs
+loop-holds c = reading-start _ _
+
+blank-requires : tie.Need-blank-requires Inv-loop μ-loop
+blank-requires c κs = search needs
 
 next-word-requires : tie.Need-next-word-requires Inv-loop μ-loop
 next-word-requires c κs = search needs
-
-same-length : tie.Need-same-length Inv-loop μ-loop
-same-length c = search needs
-
-returns : tie.Need-returns Inv-loop μ-loop
-returns c = search needs
 
 sub-take-arrivals : tie.Need-sub-take-arrivals Inv-loop μ-loop
 sub-take-arrivals c = search needs
@@ -36,28 +37,48 @@ part-take-arrivals-end c = search needs
 slice-aggregate-take-arrivals : tie.Need-slice-aggregate-take-arrivals Inv-loop μ-loop
 slice-aggregate-take-arrivals c = search needs
 
+slice-aggregate-take-arrivals-2 : tie.Need-slice-aggregate-take-arrivals-2 Inv-loop μ-loop
+slice-aggregate-take-arrivals-2 c = search needs
+
 take-arrivals-requires : tie.Need-take-arrivals-requires Inv-loop μ-loop
 take-arrivals-requires c κs = search needs
 
-same-length-2 : tie.Need-same-length-2 Inv-loop μ-loop
-same-length-2 c = search needs
-
-returns-2 : tie.Need-returns-2 Inv-loop μ-loop
-returns-2 c = search needs
+returns : tie.Need-returns Inv-loop μ-loop
+returns c =
+    reading-stopped _ _ _ _ _ (c .before .before .before .before .before .before .before .before .before .before .loop .inv) _ _ (c .before .before .before .before .before .before .before .next-word .ensures)
+    (sym (c .before .before .before .before .before .before .before .before .before .blank .ensures) ∙ not-true _ (c .before .before .before .before .before .before .before .before .if1 .taken)) _ _ _
+    (c .before .before .before .take-arrivals .ensures) (c .if2 .taken)
 
 loop-less : tie.Need-loop-less Inv-loop μ-loop
-loop-less c = search needs
+loop-less c =
+    let w = c .before .before .before .before .before .before .before .next-word .ensures in
+    omega (arith, word-begins _ _ _ _ w (sym (c .before .before .before .before .before .before .before .before .before .blank .ensures) ∙ not-true _ (c .before .before .before .before .before .before .before .before .if1 .taken)), w .onward, w .within)
 
 loop-again : tie.Need-loop-again Inv-loop μ-loop
-loop-again c = search needs
+loop-again c =
+    reading-more _ _ _ _ _ (c .before .before .before .before .before .before .before .before .before .before .loop .inv) _ _ (c .before .before .before .before .before .before .before .next-word .ensures)
+    (sym (c .before .before .before .before .before .before .before .before .before .blank .ensures) ∙ not-true _ (c .before .before .before .before .before .before .before .before .if1 .taken)) _ _ _
+    (c .before .before .before .take-arrivals .ensures) (c .if2 .left)
 
-same-length-3 : tie.Need-same-length-3 Inv-loop μ-loop
-same-length-3 c = search needs
-
-returns-3 : tie.Need-returns-3 Inv-loop μ-loop
-returns-3 c = search needs
+returns-2 : tie.Need-returns-2 Inv-loop μ-loop
+returns-2 c = reading-end _ _ _ _ _ (c .before .before .loop .inv) (sym (c .before .blank .ensures) ∙ not-false _ (c .if1 .left))
 
 pub read-arrivals-spec : {M : Type 1} → statement M
 read-arrivals-spec =
     tie.close
-    (tie.spec Inv-loop μ-loop loop-holds next-word-requires same-length returns sub-take-arrivals part-take-arrivals-start part-take-arrivals-end slice-aggregate-take-arrivals take-arrivals-requires same-length-2 returns-2 loop-less loop-again same-length-3 returns-3)
+    (tie.spec
+    Inv-loop
+    μ-loop
+    loop-holds
+    blank-requires
+    next-word-requires
+    sub-take-arrivals
+    part-take-arrivals-start
+    part-take-arrivals-end
+    slice-aggregate-take-arrivals
+    slice-aggregate-take-arrivals-2
+    take-arrivals-requires
+    returns
+    loop-less
+    loop-again
+    returns-2)

@@ -1,6 +1,6 @@
 -- No text that is printed of bytes is longer than 8,192 bytes: each figure has at most five digits, and there are at most 63 links and 64 flows.
 use Prim.Native.Nat.{ℕ, zero, suc, _+_, _*_, _≤_, _<_}
-use mathlib.Core.Path.{_≡_, refl, sym, _∙_, ap}
+use mathlib.Core.Path.{_≡_, refl}
 use mathlib.Core.Bool.{Bool, true, false, cond}
 use mathlib.Core.List.{List, [], _∷_, _++_}
 use mathlib.Core.Logic.{_⊎_, inl, inr}
@@ -41,6 +41,7 @@ use Rattle.writer.specs.Write.{scheduleOf}
 use Rattle.text.specs.Letters.{letters}
 use Rattle.text.specs.Decimal.{decimal}
 use Rattle.text.specs.Put.{textOf}
+use Rattle.text.proofs.Laws.Put.{text-append}
 use Rattle.text.proofs.Laws.Decimal.{decimal-short}
 use Rattle.report.specs.Report.{linkText, flowText, slotsText, refusal, refusalLine, linkLine, flowLine, flowLineIf, flowCount, countsLine, siteLines, reportLines, reportOf, slotsLine, scheduleText, scheduleLines, scheduleReportOf}
 use Rattle.report.specs.Listing.{nodeText, typedFlow, nodeTyped, flowTyped, flowTypedIf, siteTyped, listingLines, listingOf}
@@ -51,11 +52,6 @@ record Figure (n : ℕ) : Type 0 where
 
 figure : (n : ℕ) → Figure n → length (decimal n) ≤ 5
 figure n f = decimal-short 5 n (omega (arith, f .is)) (omega arith)
-
-text-append : (ps qs : List (List ℕ)) → length (textOf (ps ++ qs)) ≡ length (textOf ps) + length (textOf qs)
-unfolding textOf
-text-append [] qs = omega arith
-text-append (p ∷ ps) qs = length-append p (textOf (ps ++ qs)) ∙ omega (arith, text-append ps qs, length-append p (textOf ps))
 
 -- Pieces of so many bytes, and figures, one after the other.
 piece : (p : List ℕ) (ps : List (List ℕ)) (m k : ℕ) → length p ≤ m → length (textOf ps) ≤ k → length (textOf (p ∷ ps)) ≤ m + k
@@ -193,7 +189,7 @@ module _ (s : Site) (w : Sound s) where
   unfolding used scheduleOf
   slots-at i l = site-listed s (passes-sound s .1 w) .slots i (omega arith)
 
-  flow-at : (n : ℕ) → live s n ≡ true → LiveAt s n
+  pub flow-at : (n : ℕ) → live s n ≡ true → LiveAt s n
   unfolding live
   flow-at n e = go (w .formed .flows n)
     where
@@ -291,7 +287,7 @@ schedule-whole s w =
     omega (arith, text-append (joined (slotsLine s) (used (s .links)) 0) (letters "accepted links " ∷ decimal (s .links) ∷ letters "\n" ∷ []), links, last)
 
 module _ (bytes : List ℕ) (small : Bytes bytes) where
-  read-sound : (s : Site) → readOf bytes ≡ accepted s → Sound s
+  pub read-sound : (s : Site) → readOf bytes ≡ accepted s → Sound s
   read-sound s e = passes-sound s .0 (passes-when s .1 (bytes, small, e))
 
   pub report-short : length (reportOf bytes) ≤ 8192

@@ -1,8 +1,9 @@
 -- Right because each number lies behind the one before; length line - at falls.
 use borrow.Author.Needs.{needs}
-use Prim.Native.Nat.{_-_}
+use Prim.Native.Nat.{_-_, _<_}
 use lib.ListN.{length}
 use native.Mathlib.Omega.{arith}
+use Rattle.test_text.proofs.Laws.Lines.{pair-after}
 use Rattle.test_calls.proofs.arrivals_of.Statement.{statement}
 use Rattle.test_calls.proofs.arrivals_of.Tie as tie
 
@@ -11,6 +12,9 @@ Inv-loop line from arrivals₀ at₀ arrivals at = Unit {0}
 
 abbrev μ-loop : tie.MeasureT-loop
 μ-loop line from arrivals₀ at₀ arrivals at = length line - at
+
+later : (c : tie.After-next-number2 Inv-loop μ-loop) → c .before .before .before .loop .at < c .next-number2 .result .next
+later c = rw (c .next-number2 .ensures, c .before .next-number .ensures) (pair-after _ _ (omega arith))
 
 loop-holds : tie.Need-loop-holds Inv-loop μ-loop
 loop-holds c = tt
@@ -28,13 +32,13 @@ placed-requires : tie.Need-placed-requires Inv-loop μ-loop
 placed-requires c κs = search needs
 
 loop-less : tie.Need-loop-less Inv-loop μ-loop
-loop-less c = omega (arith, c .before .before .before .before .next-number .ensures .2 (omega arith))
+loop-less c = omega (arith, later (c .before .before .before))
 
 loop-again : tie.Need-loop-again Inv-loop μ-loop
 loop-again c = tt
 
 loop-less-2 : tie.Need-loop-less-2 Inv-loop μ-loop
-loop-less-2 c = omega (arith, c .before .before .next-number .ensures .2 (omega arith))
+loop-less-2 c = omega (arith, later (c .before))
 
 loop-again-2 : tie.Need-loop-again-2 Inv-loop μ-loop
 loop-again-2 c = tt
@@ -45,4 +49,16 @@ returns c = search needs
 pub arrivals-of-spec : {M : Type 1} → statement M
 arrivals-of-spec =
     tie.close
-    (tie.spec Inv-loop μ-loop loop-holds next-number-requires next-number-requires-2 low16-requires placed-requires loop-less loop-again loop-less-2 loop-again-2 returns)
+    (tie.spec
+    Inv-loop
+    μ-loop
+    loop-holds
+    next-number-requires
+    next-number-requires-2
+    low16-requires
+    placed-requires
+    loop-less
+    loop-again
+    loop-less-2
+    loop-again-2
+    returns)

@@ -1,7 +1,7 @@
 -- Right because the part that is lent has as many counters as the operand says, which the test says are there: the live site has 577.
 use borrow.Author.Needs.{needs}
 use mathlib.Core.Path.{_≡_}
-use lib.ListN.{length, length-take}
+use lib.ListN.{length}
 use native.Mathlib.Omega.{arith}
 use Rattle.test_calls.proofs.call.Statement.{statement}
 use Rattle.test_calls.proofs.call.Tie as tie
@@ -15,13 +15,14 @@ array-read-lent c = search needs
 returns : tie.Need-returns
 returns c = search needs
 
-array-borrow-prefix-counters : tie.Need-array-borrow-prefix-counters
-array-borrow-prefix-counters c =
-    let all : length (c .before .before .before .before .args .live .counters) ≡ 577 = search needs in omega arith
+sub-judged : tie.Need-sub-judged
+sub-judged c = search needs
 
-slice-aggregate-judged : tie.Need-slice-aggregate-judged
-slice-aggregate-judged c =
-    let all : length (c .before .before .before .before .before .args .live .counters) ≡ 577 = search needs in simp length-take (omega arith)
+part-counters-start : tie.Need-part-counters-start
+part-counters-start c = search needs
+
+part-counters-end : tie.Need-part-counters-end
+part-counters-end c = let all : length (c .before .before .before .before .before .args .live .counters) ≡ 577 = search needs in omega arith
 
 judged-requires : tie.Need-judged-requires
 judged-requires c κs = search needs
@@ -29,10 +30,23 @@ judged-requires c κs = search needs
 called-requires : tie.Need-called-requires
 called-requires c κs = search needs
 
+same-length : tie.Need-same-length
+same-length c = search needs
+
 returns-2 : tie.Need-returns-2
 returns-2 c = search needs
 
 pub call-spec : {M : Type 1} → statement M
 call-spec =
     tie.close
-    (tie.spec operands-requires array-read-lent returns array-borrow-prefix-counters slice-aggregate-judged judged-requires called-requires returns-2)
+    (tie.spec
+    operands-requires
+    array-read-lent
+    returns
+    sub-judged
+    part-counters-start
+    part-counters-end
+    judged-requires
+    called-requires
+    same-length
+    returns-2)

@@ -46,4 +46,16 @@ returns c = search needs
 pub different-spec : {M : Type 1} → statement M
 different-spec =
     tie.close
-    (tie.spec Inv-loop μ-loop loop-holds mul-counters sub-counters cast-counters mul-counters-2 array-write-counters add-i loop-less loop-again returns)
+    (tie.spec
+    Inv-loop
+    μ-loop
+    loop-holds
+    mul-counters
+    sub-counters
+    cast-counters
+    mul-counters-2
+    array-write-counters
+    add-i
+    loop-less
+    loop-again
+    returns)

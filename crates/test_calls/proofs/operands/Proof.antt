@@ -40,4 +40,14 @@ returns c = search needs
 pub operands-spec : {M : Type 1} → statement M
 operands-spec =
     tie.close
-    (tie.spec Inv-loop μ-loop loop-holds next-number-requires mul-numbers array-write-numbers add-i loop-less loop-again returns)
+    (tie.spec
+    Inv-loop
+    μ-loop
+    loop-holds
+    next-number-requires
+    mul-numbers
+    array-write-numbers
+    add-i
+    loop-less
+    loop-again
+    returns)

@@ -34,8 +34,7 @@ part-counters-start : tie.Need-part-counters-start
 part-counters-start c = search needs
 
 part-counters-end : tie.Need-part-counters-end
-part-counters-end c =
-    let all : length (c .before .before .before .before .before .before .before .before .before .args .live .counters) ≡ 577 = search needs in omega arith
+part-counters-end c = let all : length (c .before .before .before .before .before .before .before .before .before .before .args .live .counters) ≡ 577 = search needs in omega arith
 
 sub-slot-2 : tie.Need-sub-slot-2
 sub-slot-2 c = search needs
@@ -52,10 +51,30 @@ slot-requires c κs = search needs
 run-requires : tie.Need-run-requires
 run-requires c κs = search needs
 
+same-length : tie.Need-same-length
+same-length c = search needs
+
 returns-3 : tie.Need-returns-3
 returns-3 c = search needs
 
 pub slot-spec : {M : Type 1} → statement M
 slot-spec =
     tie.close
-    (tie.spec next-number-requires next-number-requires-2 next-number-requires-3 returns returns-2 arrivals-of-requires low32-requires sub-slot part-counters-start part-counters-end sub-slot-2 part-slot-start part-slot-end slot-requires run-requires returns-3)
+    (tie.spec
+    next-number-requires
+    next-number-requires-2
+    next-number-requires-3
+    returns
+    returns-2
+    arrivals-of-requires
+    low32-requires
+    sub-slot
+    part-counters-start
+    part-counters-end
+    sub-slot-2
+    part-slot-start
+    part-slot-end
+    slot-requires
+    run-requires
+    same-length
+    returns-3)

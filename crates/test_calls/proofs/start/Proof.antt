@@ -22,8 +22,7 @@ part-counters-start : tie.Need-part-counters-start
 part-counters-start c = search needs
 
 part-counters-end : tie.Need-part-counters-end
-part-counters-end c =
-    let all : length (c .before .before .before .before .args .live .counters) ≡ 577 = search needs in omega arith
+part-counters-end c = let all : length (c .before .before .before .before .before .args .live .counters) ≡ 577 = search needs in omega arith
 
 start-requires : tie.Need-start-requires
 start-requires c κs = search needs
@@ -31,10 +30,23 @@ start-requires c κs = search needs
 run-requires : tie.Need-run-requires
 run-requires c κs = search needs
 
+same-length : tie.Need-same-length
+same-length c = search needs
+
 returns-2 : tie.Need-returns-2
 returns-2 c = search needs
 
 pub start-spec : {M : Type 1} → statement M
 start-spec =
     tie.close
-    (tie.spec operands-requires array-read-lent returns sub-start part-counters-start part-counters-end start-requires run-requires returns-2)
+    (tie.spec
+    operands-requires
+    array-read-lent
+    returns
+    sub-start
+    part-counters-start
+    part-counters-end
+    start-requires
+    run-requires
+    same-length
+    returns-2)

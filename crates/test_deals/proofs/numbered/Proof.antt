@@ -41,4 +41,17 @@ returns : tie.Need-returns Inv-loop μ-loop
 returns c = search needs
 
 pub numbered-spec : {M : Type 1} → statement M
-numbered-spec = tie.close (tie.spec Inv-loop μ-loop loop-holds add-list cast-list mul-list array-write-list add-i loop-less loop-again returns)
+numbered-spec =
+    tie.close
+    (tie.spec
+    Inv-loop
+    μ-loop
+    loop-holds
+    add-list
+    cast-list
+    mul-list
+    array-write-list
+    add-i
+    loop-less
+    loop-again
+    returns)

@@ -1,5 +1,4 @@
--- Right because a store leaves the length of the list, n is at most this length, and the index stays within the line;
--- the length of the list less n falls.
+-- Right because a store leaves the length of the list, and n is at most this length; the length of the list less n falls.
 use borrow.Author.Needs.{needs}
 use Prim.Native.Nat.{_≤_, _-_}
 use mathlib.Core.Path.{_≡_}
@@ -9,7 +8,7 @@ use Rattle.test_deals.proofs.parse_gaps.Statement.{statement}
 use Rattle.test_deals.proofs.parse_gaps.Tie as tie
 
 abbrev Inv-loop : tie.InvT-loop
-Inv-loop line start gaps₀ n₀ at₀ gaps n at = (n ≤ length gaps) × (length gaps ≡ length gaps₀) × (at ≤ length line)
+Inv-loop line start gaps₀ n₀ at₀ gaps n at = (n ≤ length gaps) × (length gaps ≡ length gaps₀)
 
 abbrev μ-loop : tie.MeasureT-loop
 μ-loop line start gaps₀ n₀ at₀ gaps n at = length gaps - n
@@ -36,7 +35,7 @@ loop-less : tie.Need-loop-less Inv-loop μ-loop
 loop-less c = simp length-set (omega arith)
 
 loop-again : tie.Need-loop-again Inv-loop μ-loop
-loop-again c = (simp length-set (omega arith), simp length-set (omega arith), omega arith)
+loop-again c = (simp length-set (omega arith), simp length-set (omega arith))
 
 same-length : tie.Need-same-length Inv-loop μ-loop
 same-length c = search needs
@@ -53,4 +52,18 @@ returns-2 c = search needs
 pub parse-gaps-spec : {M : Type 1} → statement M
 parse-gaps-spec =
     tie.close
-    (tie.spec Inv-loop μ-loop loop-holds next-number-requires low16-requires mul-gaps slice-write-gaps add-n loop-less loop-again same-length returns same-length-2 returns-2)
+    (tie.spec
+    Inv-loop
+    μ-loop
+    loop-holds
+    next-number-requires
+    low16-requires
+    mul-gaps
+    slice-write-gaps
+    add-n
+    loop-less
+    loop-again
+    same-length
+    returns
+    same-length-2
+    returns-2)

@@ -1,8 +1,11 @@
 -- Right because each change lies behind the one before; length line - at falls.
 use borrow.Author.Needs.{needs}
 use Prim.Native.Nat.{_-_}
+use mathlib.Core.Path.{ap}
 use lib.ListN.{length}
 use native.Mathlib.Omega.{arith}
+use Rattle.test_text.specs.declared.Change.{Change}
+use Rattle.test_text.proofs.Laws.Lines.{change-after}
 use Rattle.test_schedules.proofs.altered.Statement.{statement}
 use Rattle.test_schedules.proofs.altered.Tie as tie
 
@@ -22,16 +25,10 @@ changed-requires : tie.Need-changed-requires Inv-loop μ-loop
 changed-requires c κs = search needs
 
 loop-less : tie.Need-loop-less Inv-loop μ-loop
-loop-less c = omega (arith, c .before .before .next-change .ensures .0 (omega arith))
+loop-less c = omega (arith, ap (λ (w : Change). w .next) (c .before .next-change .ensures), change-after (c .before .before .before .before .before .args .line .now) (c .before .before .before .loop .at) (omega arith))
 
 loop-again : tie.Need-loop-again Inv-loop μ-loop
 loop-again c = tt
-
-loop-less-2 : tie.Need-loop-less-2 Inv-loop μ-loop
-loop-less-2 c = omega (arith, c .before .next-change .ensures .0 (omega arith))
-
-loop-again-2 : tie.Need-loop-again-2 Inv-loop μ-loop
-loop-again-2 c = tt
 
 returns : tie.Need-returns Inv-loop μ-loop
 returns c = search needs
@@ -47,6 +44,4 @@ altered-spec =
     changed-requires
     loop-less
     loop-again
-    loop-less-2
-    loop-again-2
     returns)

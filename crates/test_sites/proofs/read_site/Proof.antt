@@ -1,12 +1,9 @@
--- Right because as many bytes are lent as `parse_hex` counted, which are within the space.
+-- Right because the bytes that were stored are those of the line, and these are read.
 use borrow.Author.Needs.{needs}
-use lib.ListN.{length-take}
-use native.Mathlib.Omega.{arith}
+use Rattle.test_text.proofs.Laws.Hex.{filled-within}
+use Rattle.test_sites.proofs.Laws.{given-site}
 use Rattle.test_sites.proofs.read_site.Statement.{statement}
 use Rattle.test_sites.proofs.read_site.Tie as tie
-
-plan-space-requires : tie.Need-plan-space-requires
-plan-space-requires c κs = search needs
 
 slice-aggregate-parse-hex : tie.Need-slice-aggregate-parse-hex
 slice-aggregate-parse-hex c = search needs
@@ -14,19 +11,29 @@ slice-aggregate-parse-hex c = search needs
 parse-hex-requires : tie.Need-parse-hex-requires
 parse-hex-requires c κs = search needs
 
-array-share-prefix-bytes : tie.Need-array-share-prefix-bytes
-array-share-prefix-bytes c = search needs
+sub-read-plan : tie.Need-sub-read-plan
+sub-read-plan c = search needs
 
-slice-aggregate-read-plan : tie.Need-slice-aggregate-read-plan
-slice-aggregate-read-plan c = simp length-take (omega arith)
+part-read-plan-start : tie.Need-part-read-plan-start
+part-read-plan-start c = search needs
+
+part-read-plan-end : tie.Need-part-read-plan-end
+part-read-plan-end c = filled-within _ _ _ _ (c .before .before .parse-hex .ensures)
 
 read-plan-requires : tie.Need-read-plan-requires
 read-plan-requires c κs = search needs
 
 returns : tie.Need-returns
-returns c = search needs
+returns c = given-site _ _ _ _ _ _ (c .before .before .before .before .before .parse-hex .ensures) (search needs) (c .before .read-plan .ensures)
 
 pub read-site-spec : {M : Type 1} → statement M
 read-site-spec =
     tie.close
-    (tie.spec plan-space-requires slice-aggregate-parse-hex parse-hex-requires array-share-prefix-bytes slice-aggregate-read-plan read-plan-requires returns)
+    (tie.spec
+    slice-aggregate-parse-hex
+    parse-hex-requires
+    sub-read-plan
+    part-read-plan-start
+    part-read-plan-end
+    read-plan-requires
+    returns)

@@ -1,6 +1,6 @@
--- Right because each number lies behind the one before, within the line.
+-- Right because each number is the first one behind the one before.
 use borrow.Author.Needs.{needs}
-use native.Mathlib.Omega.{arith}
+use Rattle.test_text.proofs.Laws.Lines.{change-made}
 use Rattle.test_text.proofs.next_change.Statement.{statement}
 use Rattle.test_text.proofs.next_change.Tie as tie
 
@@ -14,10 +14,7 @@ next-number-requires-3 : tie.Need-next-number-requires-3
 next-number-requires-3 c κs = search needs
 
 returns : tie.Need-returns
-returns c = let first = c .before .before .next-number .ensures in
-    let second = c .before .next-number2 .ensures in
-    let third = c .next-number3 .ensures in
-    (λ l. omega (arith, first .1, first .2 l, second .0, third .0), third .1)
+returns c = change-made _ _ _ _ _ (c .before .before .next-number .ensures) (c .before .next-number2 .ensures) (c .next-number3 .ensures)
 
 pub next-change-spec : {M : Type 1} → statement M
 next-change-spec =

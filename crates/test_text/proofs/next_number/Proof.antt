@@ -1,57 +1,48 @@
--- Right because the index is never before the first digit or past the length, and the value below the limit of `with_digit`; length line - at
--- falls. Where there is no digit the answer is the length, so that it lies behind the start wherever something of the line is left.
+-- Right because the digits stand from the first one on to the end of the digits, which lies behind it and within the line.
 use borrow.Author.Needs.{needs}
-use Prim.Native.Nat.{_≤_, _<_, _-_}
+use Prim.Native.Nat.{_≤_}
 use lib.ListN.{length}
+use native.Mathlib.Omega.{arith}
+use Rattle.test_text.proofs.Laws.Lines.{number-found, number-none, end-from, end-within}
 use Rattle.test_text.proofs.next_number.Statement.{statement}
 use Rattle.test_text.proofs.next_number.Tie as tie
 
-abbrev Inv-loop : tie.InvT-loop
-Inv-loop line start first value₀ at₀ value at = (start ≤ first) × (first ≤ at) × (at ≤ length line) × (value < 10000000000)
+within : (c : tie.After-number-end) → (c .before .before .number-start .result ≤ c .number-end .result) × (c .number-end .result ≤ length (c .before .before .before .before .args .line .now))
+within c = rw (c .number-end .ensures) (end-from _ _, end-within _ _ (omega arith))
 
-abbrev μ-loop : tie.MeasureT-loop
-μ-loop line start first value₀ at₀ value at = length line - at
-
-no-number-requires : tie.Need-no-number-requires Inv-loop μ-loop
-no-number-requires c κs = search needs
-
-returns : tie.Need-returns Inv-loop μ-loop
-returns c = search needs
-
-number-start-requires : tie.Need-number-start-requires Inv-loop μ-loop
+number-start-requires : tie.Need-number-start-requires
 number-start-requires c κs = search needs
 
-loop-holds : tie.Need-loop-holds Inv-loop μ-loop
-loop-holds c = search needs
+number-end-requires : tie.Need-number-end-requires
+number-end-requires c κs = search needs
 
-shared-slice-read-digit : tie.Need-shared-slice-read-digit Inv-loop μ-loop
-shared-slice-read-digit c = search needs
+sub-value-of : tie.Need-sub-value-of
+sub-value-of c = within c .0
 
-digit-requires : tie.Need-digit-requires Inv-loop μ-loop
-digit-requires c κs = search needs
+part-value-of-start : tie.Need-part-value-of-start
+part-value-of-start c = within c .0
 
-with-digit-requires : tie.Need-with-digit-requires Inv-loop μ-loop
-with-digit-requires c κs = search needs
+part-value-of-end : tie.Need-part-value-of-end
+part-value-of-end c = within c .1
 
-add-at : tie.Need-add-at Inv-loop μ-loop
-add-at c = search needs
+value-of-requires : tie.Need-value-of-requires
+value-of-requires c κs = search needs
 
-loop-less : tie.Need-loop-less Inv-loop μ-loop
-loop-less c = search needs
+returns : tie.Need-returns
+returns c = number-found _ _ _ (c .before .before .before .before .number-start .ensures) _ _ (c .before .before .before .if1 .taken) (c .before .before .number-end .ensures) (c .value-of .ensures)
 
-loop-again : tie.Need-loop-again Inv-loop μ-loop
-loop-again c = search needs
-
-no-number-requires-2 : tie.Need-no-number-requires-2 Inv-loop μ-loop
-no-number-requires-2 c κs = search needs
-
-returns-2 : tie.Need-returns-2 Inv-loop μ-loop
-returns-2 c = search needs
-
-returns-3 : tie.Need-returns-3 Inv-loop μ-loop
-returns-3 c = search needs
+returns-2 : tie.Need-returns-2
+returns-2 c = number-none _ _ _ (c .before .number-start .ensures) (c .if1 .left)
 
 pub next-number-spec : {M : Type 1} → statement M
 next-number-spec =
     tie.close
-    (tie.spec Inv-loop μ-loop no-number-requires returns number-start-requires loop-holds shared-slice-read-digit digit-requires with-digit-requires add-at loop-less loop-again no-number-requires-2 returns-2 returns-3)
+    (tie.spec
+    number-start-requires
+    number-end-requires
+    sub-value-of
+    part-value-of-start
+    part-value-of-end
+    value-of-requires
+    returns
+    returns-2)

@@ -1,27 +1,31 @@
--- Right because the index stays between the start and the length; length line - at falls.
+-- Right because no byte from the start to the index is a digit; what is left of the line falls.
 use borrow.Author.Needs.{needs}
-use Prim.Native.Nat.{_≤_, _-_}
+use Prim.Native.Nat.{_-_}
+use mathlib.Core.Path.{_≡_, refl, sym, _∙_}
 use lib.ListN.{length}
+use Rattle.pinwheel.proofs.Laws.Search.{first-hit, first-miss, first-end}
+use Rattle.test_text.specs.Lines.{numberStart}
 use Rattle.test_text.proofs.number_start.Statement.{statement}
 use Rattle.test_text.proofs.number_start.Tie as tie
 
 abbrev Inv-loop : tie.InvT-loop
-Inv-loop line start at₀ at = (start ≤ at) × (at ≤ length line)
+Inv-loop line start at₀ at = numberStart line start ≡ numberStart line at
 
 abbrev μ-loop : tie.MeasureT-loop
 μ-loop line start at₀ at = length line - at
 
 loop-holds : tie.Need-loop-holds Inv-loop μ-loop
-loop-holds c = search needs
+loop-holds c = refl
 
-shared-slice-read-digit : tie.Need-shared-slice-read-digit Inv-loop μ-loop
-shared-slice-read-digit c = search needs
+shared-slice-read-is-digit : tie.Need-shared-slice-read-is-digit Inv-loop μ-loop
+shared-slice-read-is-digit c = search needs
 
-digit-requires : tie.Need-digit-requires Inv-loop μ-loop
-digit-requires c κs = search needs
+is-digit-requires : tie.Need-is-digit-requires Inv-loop μ-loop
+is-digit-requires c κs = search needs
 
 returns : tie.Need-returns Inv-loop μ-loop
-returns c = search needs
+unfolding numberStart
+returns c = sym (c .before .before .before .before .loop .inv ∙ first-hit _ _ _ (c .before .before .before .loop-test .taken) (sym (c .before .is-digit .ensures) ∙ c .if1 .taken))
 
 add-at : tie.Need-add-at Inv-loop μ-loop
 add-at c = search needs
@@ -30,11 +34,24 @@ loop-less : tie.Need-loop-less Inv-loop μ-loop
 loop-less c = search needs
 
 loop-again : tie.Need-loop-again Inv-loop μ-loop
-loop-again c = search needs
+unfolding numberStart
+loop-again c = c .before .before .before .before .loop .inv ∙ first-miss _ _ _ (c .before .before .before .loop-test .taken) (sym (c .before .is-digit .ensures) ∙ c .if1 .left)
 
 returns-2 : tie.Need-returns-2 Inv-loop μ-loop
-returns-2 c = search needs
+unfolding numberStart
+returns-2 c = sym (c .before .loop .inv ∙ first-end _ _ _ (c .loop-test .left))
 
 pub number-start-spec : {M : Type 1} → statement M
 number-start-spec =
-    tie.close (tie.spec Inv-loop μ-loop loop-holds shared-slice-read-digit digit-requires returns add-at loop-less loop-again returns-2)
+    tie.close
+    (tie.spec
+    Inv-loop
+    μ-loop
+    loop-holds
+    shared-slice-read-is-digit
+    is-digit-requires
+    returns
+    add-at
+    loop-less
+    loop-again
+    returns-2)

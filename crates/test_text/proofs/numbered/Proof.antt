@@ -1,20 +1,18 @@
--- Right because a store leaves the length 64, and i is at most 64; 64 - i falls.
+-- Right because the bytes before the index are stored; what is left of 64 falls.
 use borrow.Author.Needs.{needs}
-use Prim.Native.Nat.{_≤_, _-_}
-use mathlib.Core.Path.{_≡_}
-use lib.ListN.{length, length-set}
-use native.Mathlib.Omega.{arith}
+use Prim.Native.Nat.{_-_}
+use Rattle.test_text.proofs.Laws.Marks.{Marked, marked-start, marked-more, marked-end}
 use Rattle.test_text.proofs.numbered.Statement.{statement}
 use Rattle.test_text.proofs.numbered.Tie as tie
 
 abbrev Inv-loop : tie.InvT-loop
-Inv-loop out₀ i₀ out i = (i ≤ 64) × (length out ≡ 64)
+Inv-loop out₀ i₀ out i = Marked i out
 
 abbrev μ-loop : tie.MeasureT-loop
 μ-loop out₀ i₀ out i = 64 - i
 
 loop-holds : tie.Need-loop-holds Inv-loop μ-loop
-loop-holds c = search needs
+loop-holds c = marked-start
 
 add-out : tie.Need-add-out Inv-loop μ-loop
 add-out c = search needs
@@ -32,10 +30,22 @@ loop-less : tie.Need-loop-less Inv-loop μ-loop
 loop-less c = search needs
 
 loop-again : tie.Need-loop-again Inv-loop μ-loop
-loop-again c = (omega arith, simp length-set (omega arith))
+loop-again c = marked-more _ _ (c .before .loop .inv) (c .loop-test .taken)
 
 returns : tie.Need-returns Inv-loop μ-loop
-returns c = search needs
+returns c = marked-end _ _ (c .before .loop .inv) (c .loop-test .left)
 
 pub numbered-spec : {M : Type 1} → statement M
-numbered-spec = tie.close (tie.spec Inv-loop μ-loop loop-holds add-out cast-out array-write-out add-i loop-less loop-again returns)
+numbered-spec =
+    tie.close
+    (tie.spec
+    Inv-loop
+    μ-loop
+    loop-holds
+    add-out
+    cast-out
+    array-write-out
+    add-i
+    loop-less
+    loop-again
+    returns)

@@ -1,20 +1,19 @@
--- Right because n counts only what `store` took, within the length, which a store leaves as it is; length line - i falls.
+-- Right because the bytes of the digits before the index are stored; what is left of the line falls.
 use borrow.Author.Needs.{needs}
-use Prim.Native.Nat.{_≤_, _-_}
-use mathlib.Core.Path.{_≡_}
-use mathlib.Core.Logic.{⊎-elim}
+use Prim.Native.Nat.{_-_}
 use lib.ListN.{length}
+use Rattle.test_text.proofs.Laws.Hex.{Parsed, parsed-start, parsed-long, parsed-end, parsed-passed, parsed-first, parsed-second}
 use Rattle.test_text.proofs.parse_hex.Statement.{statement}
 use Rattle.test_text.proofs.parse_hex.Tie as tie
 
 abbrev Inv-loop : tie.InvT-loop
-Inv-loop line bytes₀ n₀ high₀ i₀ bytes n high i = (i ≤ length line) × (n ≤ length bytes) × (length bytes ≡ length bytes₀)
+Inv-loop line bytes₀ n₀ high₀ i₀ bytes n high i = Parsed line bytes₀ i high n bytes
 
 abbrev μ-loop : tie.MeasureT-loop
 μ-loop line bytes₀ n₀ high₀ i₀ bytes n high i = length line - i
 
 loop-holds : tie.Need-loop-holds Inv-loop μ-loop
-loop-holds c = search needs
+loop-holds c = parsed-start _ _
 
 shared-slice-read-digit : tie.Need-shared-slice-read-digit Inv-loop μ-loop
 shared-slice-read-digit c = search needs
@@ -22,31 +21,56 @@ shared-slice-read-digit c = search needs
 digit-requires : tie.Need-digit-requires Inv-loop μ-loop
 digit-requires c κs = search needs
 
-joined-requires : tie.Need-joined-requires Inv-loop μ-loop
-joined-requires c κs = search needs
+add-i : tie.Need-add-i Inv-loop μ-loop
+add-i c = search needs
+
+byte-of-requires : tie.Need-byte-of-requires Inv-loop μ-loop
+byte-of-requires c κs = (c .before .if2 .taken, c .before .before .if1 .taken)
 
 store-requires : tie.Need-store-requires Inv-loop μ-loop
 store-requires c κs = search needs
-
-add-i : tie.Need-add-i Inv-loop μ-loop
-add-i c = search needs
 
 loop-less : tie.Need-loop-less Inv-loop μ-loop
 loop-less c = search needs
 
 loop-again : tie.Need-loop-again Inv-loop μ-loop
-loop-again c =
-    ⊎-elim (λ w. rw (w .7, w .8) (search needs, search needs, search needs))
-    (⊎-elim (λ w. rw (w .2, w .3) (search needs)) (λ w. rw (w .1, w .2) (search needs)))
-    (c .if1 .came)
+loop-again c = parsed-second _ _ _ _ _ _ _ (c .before .before .before .before .before .before .before .before .before .before .loop .inv) (c .before .before .before .before .before .before .before .before .before .loop-test .taken) (c .before .before .before .before .before .before .before .digit .ensures) _ _ _ (c .before .before .before .before .before .before .if1 .taken) (c .before .before .before .before .before .if2 .taken) (c .before .before .before .byte-of .ensures) (c .before .before .store .ensures)
+
+loop-less-2 : tie.Need-loop-less-2 Inv-loop μ-loop
+loop-less-2 c = search needs
+
+loop-again-2 : tie.Need-loop-again-2 Inv-loop μ-loop
+loop-again-2 c = parsed-first _ _ _ _ _ _ _ (c .before .before .before .before .before .loop .inv) (c .before .before .before .before .loop-test .taken) (c .before .before .digit .ensures) (c .before .if1 .taken) (c .if2 .left)
+
+loop-less-3 : tie.Need-loop-less-3 Inv-loop μ-loop
+loop-less-3 c = search needs
+
+loop-again-3 : tie.Need-loop-again-3 Inv-loop μ-loop
+loop-again-3 c = parsed-passed _ _ _ _ _ _ _ (c .before .before .before .before .loop .inv) (c .before .before .before .loop-test .taken) (c .before .digit .ensures) (c .if1 .left)
 
 same-length : tie.Need-same-length Inv-loop μ-loop
-same-length c = search needs
+same-length c = parsed-long _ _ _ _ _ _ (c .before .loop .inv)
 
 returns : tie.Need-returns Inv-loop μ-loop
-returns c = search needs
+returns c = parsed-end _ _ _ _ _ _ (c .before .loop .inv) (c .loop-test .left)
 
 pub parse-hex-spec : {M : Type 1} → statement M
 parse-hex-spec =
     tie.close
-    (tie.spec Inv-loop μ-loop loop-holds shared-slice-read-digit digit-requires joined-requires store-requires add-i loop-less loop-again same-length returns)
+    (tie.spec
+    Inv-loop
+    μ-loop
+    loop-holds
+    shared-slice-read-digit
+    digit-requires
+    add-i
+    byte-of-requires
+    store-requires
+    loop-less
+    loop-again
+    loop-less-2
+    loop-again-2
+    loop-less-3
+    loop-again-3
+    same-length
+    returns)

@@ -1,7 +1,6 @@
--- Right because a byte is stored only at an index below the length, and a store leaves the length as it is.
+-- Right because the byte is stored behind the first n just when there is room.
 use borrow.Author.Needs.{needs}
-use native.Mathlib.Omega.{arith}
-use lib.ListN.{length-set}
+use Rattle.test_text.proofs.Laws.Hex.{stored-room, stored-full}
 use Rattle.test_text.proofs.store.Statement.{statement}
 use Rattle.test_text.proofs.store.Tie as tie
 
@@ -15,10 +14,10 @@ same-length : tie.Need-same-length
 same-length c = search needs
 
 returns : tie.Need-returns
-returns c = simp length-set (omega arith)
+returns c = stored-room _ _ _ (c .if1 .taken)
 
 returns-2 : tie.Need-returns-2
-returns-2 c = search needs
+returns-2 c = stored-full _ _ _ (c .if1 .left)
 
 pub store-spec : {M : Type 1} → statement M
 store-spec = tie.close (tie.spec slice-write-bytes add-result same-length returns returns-2)

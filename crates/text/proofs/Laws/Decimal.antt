@@ -4,7 +4,6 @@ use mathlib.Core.Path.{_≡_, refl, sym, _∙_, ap, subst}
 use mathlib.Core.Bool.{Bool, true, false, cond, _&&_}
 use mathlib.Core.List.{List, [], _∷_, _++_}
 use mathlib.Core.Logic.{_⊎_, inl, inr}
-use lib.Dec.{ltb, leb}
 use lib.ListN.{length, getD, take, length-append, List·getD-append}
 use borrow.Author.Tests.{lt-ltb, le-ltb, le-leb}
 use native.Mathlib.Decide.{decLt}
@@ -20,11 +19,11 @@ lt-or-le a b = elim (decLt a b) [ yes l ↦ inl l | no m ↦ inr (omega arith) ]
 one-digit : (k n : ℕ) → n < 10 → digitsBy k n ≡ (48 + n) ∷ []
 unfolding digitsBy
 one-digit zero n l = refl
-one-digit (suc k) n l = rw (lt-ltb _ _ l)
+one-digit (suc k) n l = ap (λ (few : Bool). cond few ((48 + n) ∷ []) (digitsBy k (n / 10) ++ ((48 + n % 10) ∷ []))) (lt-ltb n 10 l)
 
 more-digits : (k n : ℕ) → 10 ≤ n → digitsBy (suc k) n ≡ digitsBy k (n / 10) ++ ((48 + n % 10) ∷ [])
 unfolding digitsBy
-more-digits k n l = rw (le-ltb _ _ l)
+more-digits k n l = ap (λ (few : Bool). cond few ((48 + n) ∷ []) (digitsBy k (n / 10) ++ ((48 + n % 10) ∷ []))) (le-ltb n 10 l)
 
 -- Steps beyond n change nothing.
 steps-alike : (k j n : ℕ) → n ≤ k → n ≤ j → digitsBy k n ≡ digitsBy j n
@@ -96,6 +95,19 @@ pub decimal-long : (n : ℕ) → 1 ≤ length (decimal n)
 decimal-long = by-digits (λ (n : ℕ). 1 ≤ length (decimal n))
     (λ n l. rw (decimal-one n l) (omega arith))
     (λ n l e. rw (decimal-step n l, length-append) (omega arith))
+
+-- So they are a word, and a number of at most m where n is.
+given-long : (word : List ℕ) → 1 ≤ length word → given word ≡ true
+unfolding given
+given-long [] l = absurd (omega arith)
+given-long (c ∷ cs) l = refl
+
+pub decimal-given : (n : ℕ) → given (decimal n) ≡ true
+decimal-given n = given-long (decimal n) (decimal-long n)
+
+pub decimal-number : (n m : ℕ) → n ≤ m → isNumber (decimal n) m ≡ true
+unfolding isNumber
+decimal-number n m l = rw (decimal-given n, decimal-digits n, decimal-value n) (le-leb n m l)
 
 -- A number above 0 does not begin with the digit 0.
 pub decimal-first : (n : ℕ) → 1 ≤ n → 48 < getD (decimal n) 0 0

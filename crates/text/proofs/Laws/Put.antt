@@ -1,11 +1,11 @@
 -- Pieces of text in a borrowed space: how one is stored byte by byte, and what several leave together.
 use Prim.Native.Nat.{ℕ, _+_, _≤_, _<_}
-use mathlib.Core.Path.{_≡_, refl, sym, _∙_, ap, subst}
+use mathlib.Core.Path.{_≡_, refl, sym, _∙_, ap}
 use mathlib.Core.Bool.{Bool, true, false, cond}
 use mathlib.Core.List.{List, [], _∷_, _++_, append-assoc, append-nil}
 use lib.Dec.{leb}
-use lib.ListN.{length, getD, take, drop, set, length-append}
-use lib.Seq.{paste, paste-zero, paste-suc, length-paste, take-length, take-at, length-take-le}
+use lib.ListN.{length, getD, take, drop, set, length-append, take-append-drop}
+use lib.Seq.{paste, paste-zero, paste-suc, length-paste, take-length, take-at, length-take-le, drop-append-add, drop-drop}
 use borrow.Author.Tests.{le-leb, lt-leb, leb-true}
 use native.Mathlib.Nat.{add-zero}
 use native.Mathlib.Numerals.{add-one}
@@ -87,19 +87,36 @@ unfolding puts
 puts-long s [] = refl
 puts-long s (p ∷ ps) = puts-long (put s p) ps ∙ put-long s p
 
--- Pieces with room for all of them stand one behind the other, as the text that they make.
+-- Pieces with room for all of them stand one behind the other, as the text that they make, and the rest of the space stays.
+pub puts-whole : (at : ℕ) (out : List ℕ) (ps : List (List ℕ)) → at + length (textOf ps) ≤ length out
+    → puts (at, out) ps ≡ (at + length (textOf ps), take at out ++ textOf ps ++ drop (at + length (textOf ps)) out)
+unfolding puts textOf
+puts-whole at out [] room = rw (add-zero, append-nil) (ap (λ (o : List ℕ). (at, o)) (sym (take-append-drop at out)))
+puts-whole at out (p ∷ ps) room =
+    let n : ℕ = length (textOf ps) in
+    let more : length (p ++ textOf ps) ≡ length p + n = length-append p (textOf ps) in
+    let head : List ℕ = take at out ++ p in
+    let new : List ℕ = head ++ drop (at + length p) out in
+    let long : length new ≡ length out = paste-all at out p (omega arith) in
+    let size : length head ≡ at + length p = length-append (take at out) p ∙ rw (length-take-le at out (omega arith)) in
+    let front : take (at + length p) new ≡ head = take-at head (drop (at + length p) out) (at + length p) size in
+    let behind : drop (at + length p + n) new ≡ drop (at + length p + n) out =
+    ap (λ (k : ℕ). drop (k + n) new) (sym size) ∙ drop-append-add head (drop (at + length p) out) n ∙ drop-drop n (at + length p) out in
+    let same : at + length p + n ≡ at + length (p ++ textOf ps) = omega arith in
+    ap (λ (s : ℕ × List ℕ). puts s ps) (put-room at out p (omega arith)) ∙ puts-whole (at + length p) new ps (omega arith)
+    ∙ rw (front, behind, same, append-assoc (take at out) p (textOf ps))
+
 pub puts-front : (at : ℕ) (out : List ℕ) (ps : List (List ℕ)) → at + length (textOf ps) ≤ length out
     → (puts (at, out) ps .0 ≡ at + length (textOf ps)) × (take (at + length (textOf ps)) (puts (at, out) ps .1) ≡ take at out ++ textOf ps)
-unfolding puts textOf
-puts-front at out [] room = rw (add-zero, append-nil) (refl, refl)
-puts-front at out (p ∷ ps) room =
-    let more : length (p ++ textOf ps) ≡ length p + length (textOf ps) = length-append p (textOf ps) in
-    let new : List ℕ = take at out ++ p ++ drop (at + length p) out in
-    let long : length new ≡ length out = paste-all at out p (omega arith) in
-    let same : at + length p + length (textOf ps) ≡ at + length (p ++ textOf ps) = omega arith in
-    let front : take (at + length p) new ≡ take at out ++ p =
-    take-at (take at out ++ p) (drop (at + length p) out) (at + length p) (length-append (take at out) p ∙ rw (length-take-le at out (omega arith))) in
-    let rest = puts-front (at + length p) new ps (omega arith) in
-    subst (λ (s : ℕ × List ℕ). (puts s ps .0 ≡ at + length (p ++ textOf ps)) × (take (at + length (p ++ textOf ps)) (puts s ps .1) ≡ take at out ++ (p ++ textOf ps)))
-    (sym (put-room at out p (omega arith)))
-    (rest .0 ∙ same, rw same at (rest .1) ∙ rw front (append-assoc (take at out) p (textOf ps)))
+puts-front at out ps room =
+    let size : length (take at out ++ textOf ps) ≡ at + length (textOf ps) = length-append (take at out) (textOf ps) ∙ rw (length-take-le at out (omega arith)) in
+    rw (puts-whole at out ps room) (refl, take-at (take at out ++ textOf ps) (drop (at + length (textOf ps)) out) (at + length (textOf ps)) size)
+
+-- The text of some pieces and others is that of both, and as long as both.
+pub text-joined : (ps qs : List (List ℕ)) → textOf (ps ++ qs) ≡ textOf ps ++ textOf qs
+unfolding textOf
+text-joined [] qs = refl
+text-joined (p ∷ ps) qs = rw (text-joined ps qs) (sym (append-assoc p (textOf ps) (textOf qs)))
+
+pub text-append : (ps qs : List (List ℕ)) → length (textOf (ps ++ qs)) ≡ length (textOf ps) + length (textOf qs)
+text-append ps qs = ap length (text-joined ps qs) ∙ length-append (textOf ps) (textOf qs)

@@ -1,0 +1,85 @@
+-- Right because the first word names what is asked for, and the words behind it are its operands.
+use borrow.Author.Needs.{needs}
+use mathlib.Core.Path.{sym, _∙_, ap}
+use Rattle.call_text.specs.Lines.{alone}
+use Rattle.call_text.proofs.Laws.Requests.{asked-remark, asked-nothing, asked-slot, asked-other}
+use Rattle.call_text.proofs.read_line.Statement.{statement}
+use Rattle.call_text.proofs.read_line.Tie as tie
+
+remark-requires : tie.Need-remark-requires
+remark-requires c κs = search needs
+
+without-arrivals-requires : tie.Need-without-arrivals-requires
+without-arrivals-requires c κs = search needs
+
+returns : tie.Need-returns
+returns c = c .without-arrivals .ensures ∙ asked-remark _ (sym (c .before .before .remark .ensures) ∙ c .before .if1 .taken)
+
+next-word-requires : tie.Need-next-word-requires
+next-word-requires c κs = search needs
+
+without-arrivals-requires-2 : tie.Need-without-arrivals-requires-2
+without-arrivals-requires-2 c κs = search needs
+
+returns-2 : tie.Need-returns-2
+returns-2 c =
+    c .without-arrivals2 .ensures
+    ∙ asked-nothing _ _ _ (sym (c .before .before .before .before .remark .ensures) ∙ c .before .before .before .if1 .left) (c .before .before .next-word .ensures) (c .before .if2 .taken)
+
+sub-name : tie.Need-sub-name
+sub-name c = search needs
+
+part-name-start : tie.Need-part-name-start
+part-name-start c = search needs
+
+part-name-end : tie.Need-part-name-end
+part-name-end c = search needs
+
+slice-aggregate-same : tie.Need-slice-aggregate-same
+slice-aggregate-same c = search needs
+
+same-requires : tie.Need-same-requires
+same-requires c κs = search needs
+
+slot-line-requires : tie.Need-slot-line-requires
+slot-line-requires c κs = search needs
+
+returns-3 : tie.Need-returns-3
+returns-3 c =
+    c .slot-line .ensures
+    ∙ asked-slot _ _ _ (sym (c .before .before .before .before .before .before .before .before .remark .ensures) ∙ c .before .before .before .before .before .before .before .if1 .left)
+    (c .before .before .before .before .before .before .next-word .ensures) (c .before .before .before .before .before .if2 .left) (sym (c .before .before .same .ensures) ∙ c .before .if3 .taken)
+
+other-line-requires : tie.Need-other-line-requires
+other-line-requires c κs = search needs
+
+without-arrivals-requires-3 : tie.Need-without-arrivals-requires-3
+without-arrivals-requires-3 c κs = search needs
+
+returns-4 : tie.Need-returns-4
+returns-4 c =
+    c .without-arrivals3 .ensures
+    ∙ ap alone (c .before .other-line .ensures)
+    ∙ asked-other _ _ _ (sym (c .before .before .before .before .before .before .before .before .before .remark .ensures) ∙ c .before .before .before .before .before .before .before .before .if1 .left)
+    (c .before .before .before .before .before .before .before .next-word .ensures) (c .before .before .before .before .before .before .if2 .left) (sym (c .before .before .before .same .ensures) ∙ c .before .before .if3 .left)
+
+pub read-line-spec : {M : Type 1} → statement M
+read-line-spec =
+    tie.close
+    (tie.spec
+    remark-requires
+    without-arrivals-requires
+    returns
+    next-word-requires
+    without-arrivals-requires-2
+    returns-2
+    sub-name
+    part-name-start
+    part-name-end
+    slice-aggregate-same
+    same-requires
+    slot-line-requires
+    returns-3
+    other-line-requires
+    without-arrivals-requires-3
+    returns-4)
