@@ -1,6 +1,6 @@
 // The table of the flows.
-use crate::page::print;
 use crate::page::print_stripes;
+use printing::print_front;
 use site::Site;
 use site::parent_of;
 ghost use mathlib.Core.Path.{_≡_};
@@ -93,7 +93,7 @@ fn print_flow(site: Site, number: u8, y: u64)
     let arrived = text::put(&mut line, routed, b"server</text>");
     let told = put_figures(&mut line, arrived, rate, bound, deadline);
     let ended = text::put(&mut line, told, b"</g>\n");
-    print(&line, ended);
+    print_front(&line, ended);
 }
 
 fn print_flows(site: Site) {
@@ -128,7 +128,7 @@ pub(crate) fn print_table(site: Site, flows: u64, y: u64)
         low,
         b")\">\n<text class=\"bold\" x=\"24\" y=\"18\" font-size=\"14\">flows</text>\n",
     );
-    print(&line, named);
+    print_front(&line, named);
     if flows == 0 {
         io::write_all(
             1,

@@ -1,12 +1,7 @@
-// What pictures have in common. Lengths are in pixels.
+// What pictures have in common. Lengths are in pixels. Every line is put together in the 4,096 bytes of `io::buffer`, of which the longest, a row with
+// 128 marks, takes less than half.
+use printing::print_front;
 ghost use Prim.Native.Nat.{_≤_};
-
-// Prints the first n bytes of a line. The longest, a row with 128 marks, has less than half of the 4,096 bytes of `io::buffer`.
-pub(crate) fn print(line: &[u8], n: usize) {
-    if n <= line.len() {
-        io::write_all(1, &line[0..n]);
-    }
-}
 
 fn print_style() {
     io::write_all(
@@ -34,7 +29,7 @@ pub(crate) fn print_head(width: u64, height: u64) {
         whole,
         b"\" font-family=\"sans-serif\" font-size=\"12\" fill=\"#20262d\">\n<title>Slot plan</title>\n",
     );
-    print(&line, ended);
+    print_front(&line, ended);
     print_style();
     io::write_all(1, b"<rect width=\"100%\" height=\"100%\" fill=\"#fff\"/>\n");
 }
@@ -58,7 +53,7 @@ pub(crate) fn print_stripes(width: u64, top: u64, rows: u64)
     let high = text::put_field(&mut line, left, b" ", top);
     let low = text::put_field(&mut line, high, b"v", 20 * rows);
     let ended = text::put(&mut line, low, b"\"/>\n");
-    print(&line, ended);
+    print_front(&line, ended);
 }
 
 // Puts a number of things, with its plural.
@@ -93,6 +88,6 @@ pub(crate) fn print_heading(links: u64, flows: u64) {
     let parted = text::put(&mut line, linked, b", ");
     let flown = put_count(&mut line, parted, flows, b" flow");
     let ended = text::put(&mut line, flown, b"</tspan></text>\n");
-    print(&line, ended);
+    print_front(&line, ended);
     print_legend();
 }

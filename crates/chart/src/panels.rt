@@ -1,7 +1,6 @@
 // A panel for each parent with children: its frame, slot by slot.
 use crate::marks::frame_under;
 use crate::marks::idle_count;
-use crate::page::print;
 use crate::page::print_stripes;
 use crate::page::put_count;
 use crate::rows::Scale;
@@ -9,6 +8,7 @@ use crate::rows::print_axis;
 use crate::rows::print_idle;
 use crate::rows::print_link;
 use crate::rows::scale_of;
+use printing::print_front;
 use site::Site;
 ghost use Prim.Native.Nat.{_+_, _≤_};
 ghost use Rattle.chart.specs.Inner.{Scaled};
@@ -122,7 +122,7 @@ fn print_title(site: Site, parent: u8, frame: u16, y: u64) {
     let told = text::put(&mut line, counted, b" idle");
     let shown = put_shown(&mut line, told, frame);
     let ended = text::put(&mut line, shown, b"</tspan></text>\n");
-    print(&line, ended);
+    print_front(&line, ended);
 }
 
 fn print_columns() {
@@ -145,7 +145,7 @@ fn print_edges(class: &[u8], apart: u64, middle: u64, height: u64, span: u64)
     let low = text::put_field(&mut line, tall, b"\" d=\"M424 ", middle);
     let wide = text::put_field(&mut line, low, b"h", span + 1);
     let ended = text::put(&mut line, wide, b"\"/>\n");
-    print(&line, ended);
+    print_front(&line, ended);
 }
 
 // A row for each child of the parent.

@@ -1,8 +1,8 @@
 // A plan that is refused: which check of 01 refused it, where, and what that means to a planner.
-use crate::page::print;
 use crate::page::print_head;
 use crate::page::print_tail;
 use crate::panels::put_parent;
+use printing::print_front;
 
 // What the place of a refusal counts.
 fn put_place(out: &mut [u8], at: usize, number: u8, place: usize) -> usize {
@@ -99,6 +99,6 @@ pub(crate) fn print_refusal(number: u8, place: usize) {
     let placed = put_place(&mut line, spaced, number, place);
     let told = put_rule(&mut line, placed, number);
     let ended = text::put(&mut line, told, b"</text>\n");
-    print(&line, ended);
+    print_front(&line, ended);
     print_tail();
 }

@@ -1,7 +1,7 @@
 // The rows of a panel: one for each child, one for the idle slots, and the numbers of the slots. A row is 20 pixels high, and slots begin 424 from the left.
 use crate::marks::put_idle_marks;
 use crate::marks::put_link_marks;
-use crate::page::print;
+use printing::print_front;
 use site::Site;
 ghost use mathlib.Core.Path.{_≡_};
 ghost use Prim.Native.Nat.{min, _≤_, _<_};
@@ -85,7 +85,7 @@ pub(crate) fn print_axis(y: u64, scale: Scale)
     let begun = text::put(&mut line, 0, b"<g class=\"numbers\">");
     let numbered = put_numbers(&mut line, begun, y, scale);
     let ended = text::put(&mut line, numbered, b"</g>\n");
-    print(&line, ended);
+    print_front(&line, ended);
 }
 
 // How many of a bar's 80 pixels are filled: at least one for any load.
@@ -178,7 +178,7 @@ pub(crate) fn print_link(site: Site, node: usize, y: u64, load: u32, scale: Scal
     let drawn = put_path(&mut line, loaded, b"sends", scale.width);
     let marked = put_link_marks(&mut line, drawn, site, node, scale.slots);
     let ended = text::put(&mut line, marked, b"\"/></g>\n");
-    print(&line, ended);
+    print_front(&line, ended);
 }
 
 // The row of the slots in which no child of the parent sends.
@@ -195,5 +195,5 @@ pub(crate) fn print_idle(site: Site, parent: u8, y: u64, scale: Scale) {
     let drawn = put_path(&mut line, named, b"idle", scale.width);
     let marked = put_idle_marks(&mut line, drawn, site, parent, scale.slots);
     let ended = text::put(&mut line, marked, b"\"/></g>\n");
-    print(&line, ended);
+    print_front(&line, ended);
 }
