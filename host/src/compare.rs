@@ -1,5 +1,6 @@
 //! The compiled programs against this implementation, on random inputs.
 
+use crate::chart::compare_picture;
 use crate::compare_typed::Typed;
 use crate::damage::random_plan;
 use crate::lines::first_difference;
@@ -180,6 +181,7 @@ impl Drop for Rehearse {
 
 struct Comparison {
     slotplan: PathBuf,
+    chart: PathBuf,
     readschedule: PathBuf,
     vectors: Feed,
     altered: Feed,
@@ -195,6 +197,7 @@ impl Comparison {
         let feed = |name, heading, calls| Feed::new(name, folder, Tally::new(heading, calls));
         Comparison {
             slotplan: folder.join("slotplan"),
+            chart: folder.join("chart"),
             readschedule: folder.join("readschedule"),
             vectors: feed("test_vectors", "plans", PLANS),
             altered: feed("test_altered", "altered sites", SITES),
@@ -218,7 +221,12 @@ impl Comparison {
 
     fn missing(&self) -> Vec<&Path> {
         let programs = self.feeds().map(|feed| feed.program.as_path());
-        let others = [&self.slotplan, &self.readschedule, &self.rehearse.program];
+        let others = [
+            &self.slotplan,
+            &self.chart,
+            &self.readschedule,
+            &self.rehearse.program,
+        ];
         let all = others.map(PathBuf::as_path).into_iter().chain(programs);
         let all = all.chain(self.typed.programs());
         all.filter(|program| !program.is_file()).collect()
@@ -230,6 +238,7 @@ impl Comparison {
             let plan = random_plan(random);
             self.vectors.add(format!("{}\n", hex(&plan).trim_start()))?;
             compare_one(&self.slotplan, &plan, slotplan(&plan))?;
+            compare_picture(&self.chart, &plan)?;
             self.altered.add(altered_lines(random))?;
             self.deals.add(deals_line(random))?;
             self.calls.add(call_lines(random))?;

@@ -8,6 +8,7 @@ mod bytes;
 mod c_hosts;
 mod call_lines;
 mod calls;
+mod chart;
 mod compare;
 mod compare_library;
 mod compare_typed;

@@ -1,0 +1,143 @@
+// The table of the flows.
+use crate::page::print_stripes;
+use printing::print_front;
+use site::Site;
+use site::parent_of;
+ghost use mathlib.Core.Path.{_≡_};
+ghost use Prim.Native.Nat.{_≤_};
+ghost use Rattle.text.specs.Put.{puts};
+ghost use Rattle.text.specs.Listed.{each};
+ghost use Rattle.site.specs.Tree.{route};
+ghost use Rattle.chart.specs.Routes.{hop};
+
+pub(crate) fn flow_count(site: Site) -> u64
+    ensures { λ r. ⌜ r ≤ 64 ⌝ }
+{
+    let mut count = 0;
+    let mut n = 0;
+    while n < 64 {
+        if site.states[n] == 1 {
+            count += 1;
+        }
+        n += 1;
+    }
+    count
+}
+
+pub(crate) fn table_height(flows: u64) -> u64
+    requires { ⌜ flows ≤ 64 ⌝ }
+    ensures { λ r. ⌜ r ≤ 2000 ⌝ }
+{
+    66 + 20 * flows
+}
+
+fn put_hop(out: &mut [u8], at: usize, node: u8) -> usize
+    ensures { λ r. ⌜ (r, now (out .exit)) ≡ puts (at, now (out .entry)) (hop node) ⌝ }
+{
+    let named = text::put_decimal(out, at, node as u64);
+    text::put(out, named, b" &gt; ")
+}
+
+// The links of the route from an entry node up.
+fn put_route(out: &mut [u8], at: usize, parents: &[u8], entry: u8) -> usize
+    ensures { λ r. ⌜ (r, now (out .exit)) ≡ puts (at, now (out .entry)) (each hop (route (now (parents .entry)) entry)) ⌝ }
+{
+    let mut taken = at;
+    let mut node = entry;
+    loop {
+        let parent = parent_of(parents, node);
+        if node <= parent {
+            return taken;
+        }
+        taken = put_hop(out, taken, node);
+        node = parent;
+    }
+}
+
+fn put_figures(out: &mut [u8], at: usize, rate: u8, bound: u32, deadline: u16) -> usize {
+    let rated = text::put_field(out, at, b"<text class=\"end\" x=\"440\">", rate as u64);
+    let bounded = text::put_field(
+        out,
+        rated,
+        b"</text><text class=\"end\" x=\"530\">",
+        bound as u64,
+    );
+    let due = text::put_field(
+        out,
+        bounded,
+        b"</text><text class=\"end\" x=\"650\">",
+        deadline as u64,
+    );
+    text::put(out, due, b"</text>")
+}
+
+fn print_flow(site: Site, number: u8, y: u64)
+    requires { ⌜ number ≤ 63 ⌝ }
+{
+    let n = number as usize;
+    let entry = site.entries[n];
+    let rate = site.rates[n];
+    let deadline = site.deadlines[n];
+    let bound = site::delay_bound(site, number);
+    let mut line = io::buffer();
+    let begun = text::put_field(&mut line, 0, b"<g id=\"flow", number as u64);
+    let low = text::put_field(&mut line, begun, b"\" transform=\"translate(0 ", y);
+    let named = text::put_field(
+        &mut line,
+        low,
+        b")\"><text class=\"end\" x=\"64\">",
+        number as u64,
+    );
+    let left = text::put(&mut line, named, b"</text><text x=\"88\">");
+    let routed = put_route(&mut line, left, &site.parents, entry);
+    let arrived = text::put(&mut line, routed, b"server</text>");
+    let told = put_figures(&mut line, arrived, rate, bound, deadline);
+    let ended = text::put(&mut line, told, b"</g>\n");
+    print_front(&line, ended);
+}
+
+fn print_flows(site: Site) {
+    let mut y = 58;
+    let mut n = 0;
+    while n < 64 {
+        if site.states[n] == 1 {
+            print_flow(site, n as u8, y);
+            y += 20;
+        }
+        n += 1;
+    }
+}
+
+fn print_columns() {
+    io::write_all(
+        1,
+        b"<g class=\"grey\" font-size=\"10\"><text class=\"end\" x=\"64\" y=\"40\">flow</text><text x=\"88\" y=\"40\">route</text>\
+<text class=\"end\" x=\"440\" y=\"40\">rate</text><text class=\"end\" x=\"530\" y=\"40\">G in slots</text>\
+<text class=\"end\" x=\"650\" y=\"40\">deadline in slots</text></g>\n",
+    );
+}
+
+// The table at this height.
+pub(crate) fn print_table(site: Site, flows: u64, y: u64)
+    requires { ⌜ flows ≤ 64 ⌝ }
+{
+    let mut line = io::buffer();
+    let low = text::put_field(&mut line, 0, b"<g id=\"flows\" transform=\"translate(0 ", y);
+    let named = text::put(
+        &mut line,
+        low,
+        b")\">\n<text class=\"bold\" x=\"24\" y=\"18\" font-size=\"14\">flows</text>\n",
+    );
+    print_front(&line, named);
+    if flows == 0 {
+        io::write_all(
+            1,
+            b"<text class=\"grey\" x=\"24\" y=\"40\">this plan has no flows</text>\n</g>\n",
+        );
+        return;
+    }
+    print_stripes(636, 44, flows);
+    print_columns();
+    print_flows(site);
+    io::write_all(1, b"</g>\n");
+}
