@@ -1,14 +1,9 @@
 // The table of the flows.
 use crate::page::print_stripes;
+use frames::put_route;
 use printing::print_front;
 use site::Site;
-use site::parent_of;
-ghost use mathlib.Core.Path.{_≡_};
 ghost use Prim.Native.Nat.{_≤_};
-ghost use Rattle.text.specs.Put.{puts};
-ghost use Rattle.text.specs.Listed.{each};
-ghost use Rattle.site.specs.Tree.{route};
-ghost use Rattle.chart.specs.Routes.{hop};
 
 pub(crate) fn flow_count(site: Site) -> u64
     ensures { λ r. ⌜ r ≤ 64 ⌝ }
@@ -29,29 +24,6 @@ pub(crate) fn table_height(flows: u64) -> u64
     ensures { λ r. ⌜ r ≤ 2000 ⌝ }
 {
     66 + 20 * flows
-}
-
-fn put_hop(out: &mut [u8], at: usize, node: u8) -> usize
-    ensures { λ r. ⌜ (r, now (out .exit)) ≡ puts (at, now (out .entry)) (hop node) ⌝ }
-{
-    let named = text::put_decimal(out, at, node as u64);
-    text::put(out, named, b" &gt; ")
-}
-
-// The links of the route from an entry node up.
-fn put_route(out: &mut [u8], at: usize, parents: &[u8], entry: u8) -> usize
-    ensures { λ r. ⌜ (r, now (out .exit)) ≡ puts (at, now (out .entry)) (each hop (route (now (parents .entry)) entry)) ⌝ }
-{
-    let mut taken = at;
-    let mut node = entry;
-    loop {
-        let parent = parent_of(parents, node);
-        if node <= parent {
-            return taken;
-        }
-        taken = put_hop(out, taken, node);
-        node = parent;
-    }
 }
 
 fn put_figures(out: &mut [u8], at: usize, rate: u8, bound: u32, deadline: u16) -> usize {

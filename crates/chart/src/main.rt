@@ -1,6 +1,5 @@
 // Draws the plan on standard input as a picture (SVG): whose slots they are under each parent, how full each link is, and the flows.
 mod flows;
-mod marks;
 mod page;
 mod panels;
 mod refusals;

@@ -1,6 +1,4 @@
 // A panel for each parent with children: its frame, slot by slot.
-use crate::marks::frame_under;
-use crate::marks::idle_count;
 use crate::page::print_stripes;
 use crate::page::put_count;
 use crate::rows::Scale;
@@ -8,6 +6,8 @@ use crate::rows::print_axis;
 use crate::rows::print_idle;
 use crate::rows::print_link;
 use crate::rows::scale_of;
+use frames::frame_under;
+use frames::idle_count;
 use printing::print_front;
 use site::Site;
 ghost use Prim.Native.Nat.{_+_, _≤_};

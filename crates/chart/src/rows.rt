@@ -1,6 +1,6 @@
 // The rows of a panel: one for each child, one for the idle slots, and the numbers of the slots. A row is 20 pixels high, and slots begin 424 from the left.
-use crate::marks::put_idle_marks;
-use crate::marks::put_link_marks;
+use frames::put_idle_marks;
+use frames::put_link_marks;
 use printing::print_front;
 use site::Site;
 ghost use mathlib.Core.Path.{_≡_};
@@ -176,7 +176,7 @@ pub(crate) fn print_link(site: Site, node: usize, y: u64, load: u32, scale: Scal
     let timed = put_slots(&mut line, named, offset, period);
     let loaded = put_load(&mut line, timed, load, capacity);
     let drawn = put_path(&mut line, loaded, b"sends", scale.width);
-    let marked = put_link_marks(&mut line, drawn, site, node, scale.slots);
+    let marked = put_link_marks(&mut line, drawn, site, node as u8, scale.slots);
     let ended = text::put(&mut line, marked, b"\"/></g>\n");
     print_front(&line, ended);
 }

@@ -3,7 +3,7 @@ use borrow.Author.Needs.{needs}
 use Prim.Native.Nat.{_+_, _*_, _≤_, _-_}
 use mathlib.Core.Logic.{inl, inr}
 use native.Mathlib.Omega.{arith}
-use Rattle.chart.proofs.Laws.Slots.{links-few}
+use Rattle.frames.proofs.Laws.Slots.{links-few}
 use Rattle.chart.proofs.panels.print_links.Statement.{statement}
 use Rattle.chart.proofs.panels.print_links.Tie as tie
 

@@ -2,7 +2,7 @@
 use borrow.Author.Needs.{needs}
 use Prim.Native.Nat.{_+_, _*_, _≤_, _-_}
 use native.Mathlib.Omega.{arith}
-use Rattle.chart.proofs.Laws.Slots.{links-few}
+use Rattle.frames.proofs.Laws.Slots.{links-few}
 use Rattle.chart.proofs.panels.size_of.Statement.{statement}
 use Rattle.chart.proofs.panels.size_of.Tie as tie
 
