@@ -2,23 +2,24 @@
 use Prim.Native.Nat.{ℕ, zero, suc, max, _+_, _-_, _≤_, _<_}
 use mathlib.Core.Path.{_≡_, refl, sym, _∙_, ap}
 use mathlib.Core.Bool.{Bool, true, false, not, cond, _&&_}
-use mathlib.Core.List.{List, [], _∷_}
-use lib.Dec.{eqb, ltb, leb}
-use lib.ListN.{length, getD}
+use mathlib.Core.List.{List, []}
+use lib.Dec.{eqb}
+use lib.ListN.{getD}
 use borrow.Author.Tests.{eq-eqb, ne-eqb, lt-ltb, le-leb}
 use native.Mathlib.Nat.{mod-zero}
 use native.Mathlib.Numerals.{add-one}
 use native.Mathlib.Omega.{arith}
-use Rattle.pinwheel.specs.Search.{any, largest, joined}
+use Rattle.pinwheel.specs.Search.{any, largest}
 use Rattle.pinwheel.specs.Rule.{sends}
-use Rattle.pinwheel.proofs.Laws.Search.{any-hit, any-miss, any-end}
+use Rattle.pinwheel.proofs.Laws.Search.{any-hit, any-miss, any-end, any-ext}
 use Rattle.pinwheel.proofs.Laws.Items.{joined-same}
 use Rattle.site.specs.declared.Site.{Site}
 use Rattle.site.specs.Sites.{used, ofLink}
 use Rattle.site.specs.Reservations.{sumTo}
 use Rattle.schedule.specs.Schedule.{gapsFrom, linkSends}
 use Rattle.text.specs.Put.{puts}
-use Rattle.chart.specs.Marks.{frameOf, mark, markIf, marks, busy, idle, idleCount}
+use Rattle.chart.specs.Marks.{frameOf, mark, markIf, marks, idle, idleCount}
+use Rattle.chart.specs.Inner.{busy}
 
 pub links-few : (links n : ℕ) → n ≡ used links → (n ≤ links) × (n ≤ 63)
 unfolding used
@@ -75,8 +76,15 @@ module _ (parents periods offsets : List ℕ) (p n t : ℕ) where
   silent-end i v l = sym (v .rest ∙ any-end _ n i l)
 
 pub idle-test : (s : Site) (p n t : ℕ) (r : Bool) → r ≡ busy (s .parents) (s .periods) (s .offsets) p n t → n ≡ used (s .links) → idle s p t ≡ not r
-unfolding idle
-idle-test s p n t r e l = rw (e, l)
+unfolding idle busy
+idle-test s p n t r e l = rw (← l) (ap not (sym (e ∙ any-ext _ _ n 0 each)))
+  where
+    each : (i : ℕ) → 0 ≤ i → i < 0 + n
+        → eqb (getD (s .parents) i 0) p && sends (getD (s .periods) i 0) (getD (s .offsets) i 0) t ≡ eqb (getD (s .parents) i 0) p && linkSends s (i + 1) t
+    each i a b =
+        let few = links-few (s .links) n l in
+        let k : i + 1 - 1 ≡ i = omega arith in
+        ap (λ (z : Bool). eqb (getD (s .parents) i 0) p && z) (rw k at (sends-link s (i + 1) t (omega arith) (omega (arith, few .0))))
 
 -- So many of the slots below n are idle.
 module _ (s : Site) (p : ℕ) where
