@@ -1,15 +1,14 @@
 -- Which slots of a parent's frame are marked, and how a mark is written.
-use Prim.Native.Nat.{ℕ}
+use Prim.Native.Nat.{ℕ, _+_}
 use mathlib.Core.Bool.{Bool, not, cond, _&&_}
 use mathlib.Core.List.{List, [], _∷_}
 use lib.Dec.{eqb}
 use lib.ListN.{getD}
 use Rattle.pinwheel.specs.Search.{any, largest, joined}
-use Rattle.pinwheel.specs.Rule.{sends}
 use Rattle.site.specs.declared.Site.{Site}
 use Rattle.site.specs.Sites.{used}
 use Rattle.site.specs.Reservations.{sumTo}
-use Rattle.schedule.specs.Schedule.{gapsFrom}
+use Rattle.schedule.specs.Schedule.{gapsFrom, linkSends}
 use Rattle.text.specs.Letters.{letters}
 use Rattle.text.specs.Decimal.{decimal}
 
@@ -28,13 +27,9 @@ markIf test t = cond (test t) (mark t) []
 unfoldable pub marks : (ℕ → Bool) → ℕ → List (List ℕ)
 marks test n = joined (markIf test) n 0
 
--- One of the first n links is a child of p and sends in slot t.
-unfoldable pub busy : List ℕ → List ℕ → List ℕ → ℕ → ℕ → ℕ → Bool
-busy parents periods offsets p n t = any (λ i. eqb (getD parents i 0) p && sends (getD periods i 0) (getD offsets i 0) t) n 0
-
 -- No child of p sends in slot t.
 unfoldable pub idle : Site → ℕ → ℕ → Bool
-idle s p t = not (busy (s .parents) (s .periods) (s .offsets) p (used (s .links)) t)
+idle s p t = not (any (λ i. eqb (getD (s .parents) i 0) p && linkSends s (i + 1) t) (used (s .links)) 0)
 
 -- How many of the first n slots are idle under p.
 unfoldable pub idleCount : Site → ℕ → ℕ → ℕ

@@ -6,7 +6,8 @@ ghost use lib.ListN.{length};
 ghost use Rattle.text.specs.Put.{puts};
 ghost use Rattle.pinwheel.specs.Rule.{sends};
 ghost use Rattle.schedule.specs.Schedule.{linkSends};
-ghost use Rattle.frames.specs.Marks.{frameOf, mark, marks, busy, idle, idleCount};
+ghost use Rattle.frames.specs.Marks.{frameOf, mark, marks, idle, idleCount};
+ghost use Rattle.frames.specs.Inner.{busy};
 
 fn longer(period: u16, longest: u16) -> u16
     ensures { λ r. ⌜ r ≡ max period longest ⌝ }

@@ -2,23 +2,24 @@
 use Prim.Native.Nat.{ℕ, zero, suc, max, _+_, _-_, _≤_, _<_}
 use mathlib.Core.Path.{_≡_, refl, sym, _∙_, ap}
 use mathlib.Core.Bool.{Bool, true, false, not, cond, _&&_}
-use mathlib.Core.List.{List, [], _∷_}
-use lib.Dec.{eqb, ltb, leb}
-use lib.ListN.{length, getD}
+use mathlib.Core.List.{List, []}
+use lib.Dec.{eqb}
+use lib.ListN.{getD}
 use borrow.Author.Tests.{eq-eqb, ne-eqb, lt-ltb, le-ltb, lt-leb, le-leb}
 use native.Mathlib.Nat.{mod-zero}
 use native.Mathlib.Numerals.{add-one}
 use native.Mathlib.Omega.{arith}
 use Rattle.pinwheel.specs.Search.{any, largest, joined}
 use Rattle.pinwheel.specs.Rule.{sends}
-use Rattle.pinwheel.proofs.Laws.Search.{any-hit, any-miss, any-end}
+use Rattle.pinwheel.proofs.Laws.Search.{any-hit, any-miss, any-end, any-ext}
 use Rattle.pinwheel.proofs.Laws.Items.{joined-same}
 use Rattle.site.specs.declared.Site.{Site}
 use Rattle.site.specs.Sites.{used, ofLink}
 use Rattle.site.specs.Reservations.{sumTo}
 use Rattle.schedule.specs.Schedule.{gapsFrom, linkSends}
 use Rattle.text.specs.Put.{puts}
-use Rattle.frames.specs.Marks.{frameOf, mark, markIf, marks, busy, idle, idleCount}
+use Rattle.frames.specs.Marks.{frameOf, mark, markIf, marks, idle, idleCount}
+use Rattle.frames.specs.Inner.{busy}
 
 pub links-few : (links n : ℕ) → n ≡ used links → (n ≤ links) × (n ≤ 63)
 unfolding used
@@ -42,7 +43,11 @@ marks-same : (p q : ℕ → Bool) (n : ℕ) → ((t : ℕ) → p t ≡ q t) → 
 unfolding marks markIf
 marks-same p q n e = joined-same _ _ n 0 (λ t l h. rw (e t))
 
--- Slot rule 6 for a node that has a link; any other never sends.
+-- Slot rule 6 for a link at an index, and for a node that has a link; any other never sends.
+sends-link : (s : Site) (i t : ℕ) → i < s .links → sends (getD (s .periods) i 0) (getD (s .offsets) i 0) t ≡ linkSends s (i + 1) t
+unfolding linkSends ofLink
+sends-link s i t l = rw (add-one i, lt-ltb 0 (suc i) (omega arith), le-leb (suc i) (s .links) (omega arith))
+
 pub marks-link : (s : Site) (n slots period offset : ℕ) (t u : ℕ × List ℕ) → 0 < n → n ≤ s .links → period ≡ ofLink (s .periods) n → offset ≡ ofLink (s .offsets) n
     → u ≡ puts t (marks (sends period offset) slots) → u ≡ puts t (marks (linkSends s n) slots)
 unfolding linkSends
@@ -85,8 +90,13 @@ module _ (parents periods offsets : List ℕ) (p n t : ℕ) where
   silent-end i v l = sym (v .rest ∙ any-end _ n i l)
 
 pub idle-test : (s : Site) (p n t : ℕ) (r : Bool) → r ≡ busy (s .parents) (s .periods) (s .offsets) p n t → n ≡ used (s .links) → idle s p t ≡ not r
-unfolding idle
-idle-test s p n t r e l = rw (e, l)
+unfolding idle busy
+idle-test s p n t r e l = rw (← l) (ap not (sym (e ∙ any-ext _ _ n 0 each)))
+  where
+    each : (i : ℕ) → 0 ≤ i → i < 0 + n
+        → eqb (getD (s .parents) i 0) p && sends (getD (s .periods) i 0) (getD (s .offsets) i 0) t ≡ eqb (getD (s .parents) i 0) p && linkSends s (i + 1) t
+    each i a b =
+        ap (λ (z : Bool). eqb (getD (s .parents) i 0) p && z) (sends-link s i t (omega (arith, links-few (s .links) n l .0)))
 
 -- So many of the slots below n are idle.
 module _ (s : Site) (p : ℕ) where

@@ -1,7 +1,7 @@
 -- A route put as text, link by link.
 use Prim.Native.Nat.{ℕ, _≤_, _<_}
 use mathlib.Core.Path.{_≡_, refl, sym, _∙_, ap}
-use mathlib.Core.List.{List, [], _∷_, _++_}
+use mathlib.Core.List.{List}
 use lib.ListN.{length}
 use Rattle.site.specs.Tree.{up, route}
 use Rattle.site.proofs.Laws.Tree.{route-up, route-end}

@@ -3,7 +3,6 @@ use borrow.Author.Needs.{needs}
 use Prim.Native.Nat.{_+_, _*_, _≤_, _-_}
 use mathlib.Core.Path.{_≡_}
 use lib.ListN.{length}
-use native.Mathlib.Omega.{arith}
 use Rattle.chart.proofs.rows.put_numbers.Statement.{statement}
 use Rattle.chart.proofs.rows.put_numbers.Tie as tie
 
