@@ -19,6 +19,7 @@ fn put_case(out: &mut [u8], site: Site, space: &mut [u8]) -> usize {
     test_text::put_left(out, planned, b", schedule", schedule_written, space)
 }
 
+// A length for which there is no slice puts nothing: the number of bytes is then one that no line has, and nothing is printed.
 fn put_line(out: &mut [u8], line: &[u8], site: Site) -> usize {
     if test_text::begins(line, b'#') {
         return text::put(out, 0, line);
@@ -28,7 +29,7 @@ fn put_line(out: &mut [u8], line: &[u8], site: Site) -> usize {
     let mut space = test_text::numbered();
     let next = test_sites::altered(site, line, room.next);
     if 64 < n {
-        return 0;
+        return usize::MAX;
     }
     put_case(out, next, &mut space[0..n])
 }

@@ -69,6 +69,7 @@ fn parse_gaps(line: &[u8], start: usize, gaps: &mut [u16]) -> usize
     n
 }
 
+// A length for which there is no slice puts nothing: the number of bytes is then one that no line has, and nothing is printed.
 fn put_case(out: &mut [u8], line: &[u8]) -> usize {
     let first = test_text::next_number(line, 0);
     let second = test_text::next_number(line, first.next);
@@ -79,10 +80,10 @@ fn put_case(out: &mut [u8], line: &[u8]) -> usize {
     let mut periods = numbered(700);
     let n = parse_gaps(line, second.next, &mut gaps);
     if 66 < offsets_length {
-        return 0;
+        return usize::MAX;
     }
     if 66 < periods_length {
-        return 0;
+        return usize::MAX;
     }
     put_deal(
         out,

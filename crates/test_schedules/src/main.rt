@@ -54,13 +54,14 @@ fn put_left(out: &mut [u8], schedule: Schedule, space: &mut [u8]) -> usize {
     test_text::put_left(out, 0, b"schedule", written, space)
 }
 
+// A length for which there is no slice puts nothing: the number of bytes is then one that no line has, and nothing is printed.
 fn put_writing(out: &mut [u8], line: &[u8], schedule: Schedule) -> usize {
     let room = test_text::next_number(line, 0);
     let n = room.value;
     let mut space = test_text::numbered();
     let next = altered(schedule, line, room.next);
     if 64 < n {
-        return 0;
+        return usize::MAX;
     }
     put_left(out, next, &mut space[0..n])
 }
