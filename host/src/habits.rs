@@ -76,6 +76,33 @@ fn rehearse_refuses_a_folder() {
     assert_eq!(printed, expected);
 }
 
+/// A text whose second line is wrong in each way that a line can be, and in two ways at once: the first is told.
+#[test]
+fn assemble_tells_each_wrong_word() {
+    let wrong = [
+        "nodes 1 2 3",
+        "node",
+        "node 256 2 3",
+        "node 1 65536 3",
+        "node 1 2",
+        "node 1 2 65536",
+        "node 1 2 3 4",
+        "node x y",
+        "flow",
+        "flow 256 2 3 4",
+        "flow 1 256 3 4",
+        "flow 1 2 -3 4",
+        "flow 1 2 3 65536",
+        "flow 1 2 3 4 5",
+    ];
+    for line in wrong {
+        let text = format!("node 0 20 4 # a lane\n{line}\nflow x\n");
+        let expected = Printed::told(&assemble(text.as_bytes()).unwrap_err());
+        let printed = run_built(ASSEMBLE, &[], text.as_bytes());
+        assert_eq!(printed.difference(&expected), None, "{line}");
+    }
+}
+
 /// More than any program keeps. rehearse answers every line, so the lines are long.
 fn endless_inputs() -> [Vec<u8>; 4] {
     let line = [&[b'y'; 999][..], b"\n"].concat();

@@ -45,9 +45,10 @@ operandOf (w ∷ ws) most = cond (isNumber w most) (true, valueOf w, ws) (false,
 unfoldable pub said : List (List ℕ) → ℕ → ℕ
 said words i = valueOf (getD words i [])
 
--- The first word of a line from index `from` on stands from `start` to `end`, which are equal where there is none.
+-- The first word of a line from index `from` on stands from `start` to `end`; where there is none, both are the line's length.
 pub record NextWord (line : List ℕ) (from start end : ℕ) : Type 0 where
   pub onward : min from (length line) ≤ start
   pub ordered : start ≤ end
   pub within : end ≤ length line
   pub words : wordsOf (drop from line) ≡ cond (eqb start end) [] (take (end - start) (drop start line) ∷ wordsOf (drop end line))
+  pub last : start ≡ end → end ≡ length line

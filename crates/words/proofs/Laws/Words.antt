@@ -85,6 +85,7 @@ module _ (line : List ℕ) where
       ordered = omega (arith, b .onward);
       within = b .within;
       words = words-from from start a ∙ words-end start (omega arith) ∙ rw (eq-eqb start end (omega (arith, b .onward, b .within)));
+      last = λ e. omega (arith, q, e);
     }
     | inr l ↦
         let m : start < end = longer start end l (not-true _ (a .marked l)) b in
@@ -93,6 +94,7 @@ module _ (line : List ℕ) where
           ordered = omega arith;
           within = b .within;
           words = words-from from start a ∙ word-at start end l m b ∙ rw (ne-eqb start end (λ q. absurd (omega arith)));
+          last = λ e. absurd (omega (arith, m, e));
         }
   ]
 
