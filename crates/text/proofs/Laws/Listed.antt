@@ -1,5 +1,5 @@
 -- The pieces of a list, put by a loop over its numbers.
-use Prim.Native.Nat.{ℕ, suc, _+_, _-_, _≤_, _<_}
+use Prim.Native.Nat.{ℕ, suc, _+_, _-_, _*_, _/_, _%_, _≤_, _<_}
 use mathlib.Core.Path.{_≡_, refl, sym, _∙_, ap}
 use mathlib.Core.List.{List, [], _∷_, _++_}
 use lib.ListN.{length, getD, take, drop, drop-of-length-le}
@@ -7,7 +7,7 @@ use lib.Seq.{drop-cons, take-all}
 use native.Mathlib.Numerals.{add-one}
 use native.Mathlib.Omega.{arith}
 use Rattle.text.specs.Put.{puts}
-use Rattle.text.specs.Listed.{each, hexOf, spacedHex, hexText}
+use Rattle.text.specs.Listed.{each, hexDigit, hexOf, spacedHex, hexText}
 use Rattle.text.proofs.Laws.Put.{puts-long, puts-then}
 
 -- The space t has the pieces of the first i numbers: those of the others make it what all make of s.
@@ -44,3 +44,11 @@ pub hex-some : (s : ℕ × List ℕ) (bytes : List ℕ) → 0 < length bytes
 unfolding hexText
 hex-some s [] l = absurd (omega arith)
 hex-some s (b ∷ bs) l = rw (take-all (suc (length bs) - 1) bs (omega arith))
+
+-- A byte is shown by the digit of its high half and then by that of its low half.
+pub hex-halves : (high low : ℕ) → low < 16 → hexOf (16 * high + low) ≡ hexDigit high ∷ hexDigit low ∷ []
+unfolding hexOf
+hex-halves high low l =
+    let a : (16 * high + low) / 16 ≡ high = omega arith in
+    let b : (16 * high + low) % 16 ≡ low = omega arith in
+    rw (a, b)
