@@ -12,22 +12,22 @@ use lib.ListN.{length, getD}
 use lib.Seq.{getD-set-same}
 use borrow.Author.Tests.{lt-ltb, ne-eqb, ltb-true, ltb-false, eqb-true, eqb-false, not-true, not-false}
 use native.Mathlib.Omega.{arith}
-use Rattle.pinwheel.specs.Outcome.{Ruling, accepted, refused, checked, settled, none, Ruled, nothing}
-use Rattle.pinwheel.proofs.Laws.Outcomes.{past, checked-past, settled-accepted, settled-refused, ruled-check, ruled-test, ruled-end}
+use Rattle.rulings.specs.Outcome.{Ruling, accepted, refused, checked, settled, none, Ruled, nothing}
+use Rattle.rulings.proofs.Laws.Outcomes.{past, checked-past, settled-accepted, settled-refused, ruled-check, ruled-test, ruled-end}
 use Rattle.site.specs.declared.Site.{Site}
 use Rattle.site.specs.declared.Flow.{Flow}
 use Rattle.site.specs.Sites.{emptySite, live, withFlow, withoutFlow}
-use Rattle.site.specs.Reservations.{gapsJudged, routeOf, widthAt, along, delayBound}
-use Rattle.site.specs.Words.{HasRoom, RoomAlong, UnfitAt}
-use Rattle.site.proofs.Laws.{room-when, unfit-when}
-use Rattle.site.proofs.Laws.Tree.{has-when, route-some}
-use Rattle.site.proofs.Laws.Reservations.{live-with}
+use Rattle.reservations.specs.Reservations.{periodsJudged, routeOf, widthAt, along, delayBound}
+use Rattle.reservations.specs.Words.{HasRoom, RoomAlong, UnfitAt}
+use Rattle.reservations.proofs.Laws.{room-when, unfit-when}
+use Rattle.tree.proofs.Laws.Tree.{has-when, route-some}
+use Rattle.site.proofs.Laws.Flows.{live-with}
 use Rattle.limits.specs.Limits.{misplaced, flowLimits}
 use Rattle.limits.specs.Words.{FlowWithin}
-use Rattle.limits.specs.Check.{flowOf, passesOf, callFault}
-use Rattle.limits.proofs.Laws.{passes-sound, call-when, call-first, flow-first, flow-added, flow-back}
+use Rattle.site_check.specs.Check.{flowOf, passesOf, callFault}
+use Rattle.site_check.proofs.Laws.{passes-sound, call-when, call-first, flow-first, flow-added, flow-back}
 use Rattle.limits.proofs.Laws.Forms.{flow-within, flow-good}
-use Rattle.limits.proofs.Laws.Empty.{empty-passes}
+use Rattle.site_check.proofs.Laws.Empty.{empty-passes}
 use Rattle.counters.specs.Blocks.{cellsOf, withCells, zeros}
 use Rattle.counters.proofs.Laws.{length-with, block-same, block-other, length-zeros}
 use Rattle.admission.specs.Calls.{change, routeFor, unfitLink, flowRuling, admitRuling, admitOf, numberRuling, releaseRuling, releaseOf}
@@ -41,13 +41,13 @@ route-room s f = room-when s (f .rate) (routeFor s f) (route-some (s .parents) (
 
 -- An admission is accepted just when it is as the words say.
 pub admits-when : (s : Site) (counters : List ℕ) (f : Flow) → (admitRuling s counters f ≡ accepted tt) ↔ Admissible s counters f
-unfolding flowRuling admitRuling gapsJudged
+unfolding flowRuling admitRuling periodsJudged
 admits-when s counters f = (
   λ e. let a = checked-past (callFault s counters) _ e in
       let b = checked-past (flowLimits (s .links) 0 f) _ (a .1) in
       let c = past (live s (f .number)) 15 (f .number) _ (b .1) in
       let d = past (not (eqb (unfitLink s f) 0)) 17 (unfitLink s f) _ (c .1) in
-      let g = past (ltb (f .deadline) (along (gapsJudged s) (routeFor s f))) 18 (f .number) _ (d .1) in
+      let g = past (ltb (f .deadline) (along (periodsJudged s) (routeFor s f))) 18 (f .number) _ (d .1) in
       let call = call-when s counters .0 (a .0) in
       record {
         counted = call .0;
@@ -82,14 +82,14 @@ released-cells s counters n e = let w = releases-when s counters n .0 e in omega
 
 -- An admission is refused by the first check that fails, with its place, and accepted where none fails.
 pub admits-first : (s : Site) (counters : List ℕ) (f : Flow) (o : Ruling) → (admitRuling s counters f ≡ o) ↔ Ruled nothing (admissionChecks s counters f) o
-unfolding flowRuling admitRuling gapsJudged
+unfolding flowRuling admitRuling periodsJudged
 admits-first s counters f o =
     call-first nothing o _ _ s counters (flow-first nothing o _ _ (s .links) f
     (ruled-test nothing o (live s (f .number)) 15 (f .number) _ _ _ (λ e. e, λ e. e)
     (λ _. ruled-check nothing o (not (eqb (unfitLink s f) 0)) 17 (unfitLink s f) (λ p. UnfitAt s (f .rate) (routeFor s f) p) _ _
     (λ e. unfit-when s (f .rate) (routeFor s f) (unfitLink s f) (some e) .0 refl)
     (λ p w. unfit p w (unfit-when s (f .rate) (routeFor s f) p (above p w) .1 w))
-    (λ _. ruled-test nothing o (ltb (f .deadline) (along (gapsJudged s) (routeFor s f))) 18 (f .number) _ none _ (ltb-true _ _, lt-ltb _ _)
+    (λ _. ruled-test nothing o (ltb (f .deadline) (along (periodsJudged s) (routeFor s f))) 18 (f .number) _ none _ (ltb-true _ _, lt-ltb _ _)
     (λ _. ruled-end nothing o tt tt (λ b w. refl))))))
   where
     some : not (eqb (unfitLink s f) 0) ≡ true → 1 ≤ unfitLink s f
@@ -182,7 +182,7 @@ cells-after counters n long few =
 
 -- A site that passes check 14 passes it after an accepted admission. (After a release it does by `flow-taken` of crate `limits`.)
 pub admitted-passes : (s : Site) (counters : List ℕ) (f : Flow) → Admissible s counters f → passesOf (withFlow s f) ≡ true
-unfolding gapsJudged widthAt
+unfolding periodsJudged widthAt
 admitted-passes s counters f w =
     flow-added s (passes-sound s .1 (w .sound)) f (w .free) (w .good) (λ m h. fits m (has-when m (routeFor s f) .0 h)) (w .time)
   where

@@ -3,14 +3,14 @@ use Prim.Native.Nat.{ℕ}
 use mathlib.Core.Bool.{not, cond}
 use mathlib.Core.List.{List}
 use lib.Dec.{eqb, ltb}
-use Rattle.pinwheel.specs.Outcome.{Ruling, accepted, refused, checked, settled}
+use Rattle.rulings.specs.Outcome.{Ruling, accepted, refused, checked, settled}
 use Rattle.site.specs.declared.Site.{Site}
 use Rattle.site.specs.declared.Flow.{Flow}
 use Rattle.site.specs.Sites.{live, withFlow, withoutFlow}
-use Rattle.site.specs.Tree.{route}
-use Rattle.site.specs.Reservations.{gapsJudged, firstUnfit, along}
+use Rattle.tree.specs.Tree.{route}
+use Rattle.reservations.specs.Reservations.{periodsJudged, firstUnfit, along}
 use Rattle.limits.specs.Limits.{flowLimits}
-use Rattle.limits.specs.Check.{callFault}
+use Rattle.site_check.specs.Check.{callFault}
 use Rattle.counters.specs.Blocks.{withCells, zeros}
 
 -- 01: a refused change gives the old site and leaves the counters as they were, whatever refused it.
@@ -31,7 +31,7 @@ flowRuling s f =
     checked (flowLimits (s .links) 0 f)
     (cond (live s (f .number)) (refused 15 (f .number))
     (cond (not (eqb (unfitLink s f) 0)) (refused 17 (unfitLink s f))
-    (cond (ltb (f .deadline) (along (gapsJudged s) (routeFor s f))) (refused 18 (f .number))
+    (cond (ltb (f .deadline) (along (periodsJudged s) (routeFor s f))) (refused 18 (f .number))
     (accepted tt))))
 
 -- 01, the order of an admission's checks: 1, 14, then these.

@@ -4,13 +4,14 @@ use mathlib.Core.Path.{_≡_}
 use mathlib.Core.Bool.{true, false}
 use mathlib.Core.List.{List}
 use lib.ListN.{length}
-use Rattle.pinwheel.specs.Outcome.{Checks, none, check}
+use Rattle.rulings.specs.Outcome.{Checks, none, check}
 use Rattle.site.specs.declared.Site.{Site}
 use Rattle.site.specs.declared.Flow.{Flow}
 use Rattle.site.specs.Sites.{live}
-use Rattle.site.specs.Reservations.{along}
-use Rattle.site.specs.Words.{RoomAlong, UnfitAt}
-use Rattle.limits.specs.Words.{FlowGood, Sound, callChecks, flowChecks}
+use Rattle.reservations.specs.Reservations.{along}
+use Rattle.reservations.specs.Words.{RoomAlong, UnfitAt}
+use Rattle.limits.specs.Words.{FlowGood, flowChecks}
+use Rattle.site_check.specs.Words.{Sound, callChecks}
 use Rattle.admission.specs.Calls.{routeFor}
 
 -- 02, U2: the number that 18 judges, the periods on the route that the flow would have, summed. The law `bound-asked` says that this is G once it is live.

@@ -1,11 +1,10 @@
 // Flows that come to a live site and go (01: the desk).
-use schedule::Judged;
-use schedule::Verdict;
+use judgement::Judged;
+use rulings::Verdict;
 use site::Flow;
 use site::Site;
 ghost use mathlib.Core.Path.{_≡_};
-ghost use Rattle.pinwheel.specs.Outcome.{settled};
-ghost use Rattle.schedule.specs.Judge.{ruling};
+ghost use Rattle.rulings.specs.Outcome.{settled, ruling};
 ghost use Rattle.counters.specs.Blocks.{cleared};
 ghost use Rattle.admission.specs.Calls.{flowRuling, admitRuling, admitOf, numberRuling, releaseRuling, releaseOf};
 
@@ -22,8 +21,8 @@ pub fn judge_flow(site: Site, flow: Flow) -> Verdict
     if live {
         return Verdict::Refused(15, number);
     }
-    let link = site::first_unfit(site, flow) as usize;
-    let gaps = site::gaps_along(site, flow.entry);
+    let link = reservations::first_unfit(site, flow) as usize;
+    let gaps = reservations::periods_along(site, flow.entry);
     let deadline = flow.deadline as u32;
     if link != 0 {
         return Verdict::Refused(17, link);
@@ -51,7 +50,7 @@ pub fn judge_number(site: Site, number: u8) -> Verdict
 fn judge_admission(site: Site, counters: &[u32], flow: Flow) -> Verdict
     ensures { λ r. ⌜ ruling r ≡ admitRuling site (now (counters .entry)) flow ⌝ }
 {
-    let call = limits::call_fault(site, counters);
+    let call = site_check::call_fault(site, counters);
     if call != 0 {
         return Verdict::Refused(call, 0);
     }
@@ -62,7 +61,7 @@ fn judge_admission(site: Site, counters: &[u32], flow: Flow) -> Verdict
 fn judge_release(site: Site, counters: &[u32], number: u8) -> Verdict
     ensures { λ r. ⌜ ruling r ≡ releaseRuling site (now (counters .entry)) number ⌝ }
 {
-    let call = limits::call_fault(site, counters);
+    let call = site_check::call_fault(site, counters);
     if call != 0 {
         return Verdict::Refused(call, 0);
     }

@@ -3,20 +3,20 @@ use typed_plan::Assembled;
 
 fn put_node_fault(out: &mut [u8], at: usize, place: u8) -> usize {
     match place {
-        2 => text::put(out, at, b"PARENT must be a number from 0 to 255"),
-        3 => text::put(out, at, b"CAPACITY must be a number from 0 to 65535"),
-        4 => text::put(out, at, b"GAP must be a number from 0 to 65535"),
-        _ => text::put(out, at, b"a word too many"),
+        2 => slices::put(out, at, b"PARENT must be a number from 0 to 255"),
+        3 => slices::put(out, at, b"CAPACITY must be a number from 0 to 65535"),
+        4 => slices::put(out, at, b"GAP must be a number from 0 to 65535"),
+        _ => slices::put(out, at, b"a word too many"),
     }
 }
 
 fn put_flow_fault(out: &mut [u8], at: usize, place: u8) -> usize {
     match place {
-        2 => text::put(out, at, b"NUMBER must be a number from 0 to 255"),
-        3 => text::put(out, at, b"NODE must be a number from 0 to 255"),
-        4 => text::put(out, at, b"RATE must be a number from 0 to 255"),
-        5 => text::put(out, at, b"DEADLINE must be a number from 0 to 65535"),
-        _ => text::put(out, at, b"a word too many"),
+        2 => slices::put(out, at, b"NUMBER must be a number from 0 to 255"),
+        3 => slices::put(out, at, b"NODE must be a number from 0 to 255"),
+        4 => slices::put(out, at, b"RATE must be a number from 0 to 255"),
+        5 => slices::put(out, at, b"DEADLINE must be a number from 0 to 65535"),
+        _ => slices::put(out, at, b"a word too many"),
     }
 }
 
@@ -24,16 +24,16 @@ fn put_fault(out: &mut [u8], at: usize, command: u8, place: u8) -> usize {
     match command {
         1 => put_node_fault(out, at, place),
         2 => put_flow_fault(out, at, place),
-        _ => text::put(out, at, b"neither node nor flow"),
+        _ => slices::put(out, at, b"neither node nor flow"),
     }
 }
 
 fn tell_line(line: usize, command: u8, place: u8) {
     let mut told = [0u8; 128];
     let numbered = text::put_field(&mut told, 0, b"line ", line as u64);
-    let parted = text::put(&mut told, numbered, b": ");
+    let parted = slices::put(&mut told, numbered, b": ");
     let judged = put_fault(&mut told, parted, command, place);
-    let size = text::put(&mut told, judged, b"\n");
+    let size = slices::put(&mut told, judged, b"\n");
     if size <= 128 {
         io::write_all(2, &told[0..size]);
     }

@@ -4,30 +4,33 @@ use mathlib.Core.Path.{_≡_, refl, sym, _∙_, ap}
 use mathlib.Core.Bool.{Bool, true, false, cond}
 use mathlib.Core.List.{List, [], _∷_, _++_}
 use mathlib.Core.Logic.{inl, inr}
-use lib.Dec.{ltb, leb}
-use lib.ListN.{length, getD, take, drop, List·getD-eq-default, length-append, length-drop}
+use lib.Dec.{ltb}
+use lib.ListN.{length, getD, take, drop, List·getD-eq-default, length-append}
 use lib.Seq.{take-at}
 use borrow.Author.Tests.{le-leb, lt-leb, eqb-true, ltb-true}
 use native.Mathlib.Nat.{sub-zero}
 use native.Mathlib.Omega.{arith}
-use Rattle.pinwheel.specs.Outcome.{Outcome, accepted, refused}
-use Rattle.pinwheel.proofs.Laws.Search.{lt-or-le}
+use Rattle.rulings.specs.Outcome.{Outcome, accepted, refused}
+use Rattle.lists.proofs.Laws.Search.{lt-or-le}
 use Rattle.site.specs.declared.Site.{Site}
 use Rattle.site.specs.Sites.{live}
-use Rattle.site.specs.Reservations.{delayBound}
-use Rattle.limits.specs.Check.{passesOf}
-use Rattle.limits.proofs.Laws.Check.{passes-few}
+use Rattle.reservations.specs.Reservations.{delayBound}
+use Rattle.site_check.specs.Check.{passesOf, writtenIf}
+use Rattle.site_check.proofs.Laws.Check.{passes-few}
 use Rattle.format.specs.Commands.{scheduleSize}
-use Rattle.writer.specs.Write.{scheduleOf, planBytes, scheduleBytes, written, handed, writtenIf}
-use Rattle.writer.proofs.Laws.Write.{links-few, schedule-size}
+use Rattle.schedule_writer.specs.Write.{scheduleOf, scheduleBytes}
+use Rattle.plan_writer.specs.Write.{planBytes}
+use Rattle.slices.specs.Written.{written, handed}
+use Rattle.schedule_writer.proofs.Laws.Write.{links-few, schedule-size}
 use Rattle.plan.proofs.Laws.{plan-short}
 use Rattle.text.specs.Letters.{letters}
 use Rattle.text.specs.Decimal.{decimal}
 use Rattle.text.specs.Put.{puts}
-use Rattle.text.specs.Listed.{each, spacedDecimal, hexText}
-use Rattle.report.specs.Report.{refusal}
-use Rattle.call_answers.specs.Answers.{cellsText, boundText, planText, scheduleText}
-use Rattle.call_answers.specs.Inner.{frontText, writtenText}
+use Rattle.text.specs.Listed.{each, spacedDecimal}
+use Rattle.hexadecimal.specs.Hexadecimal.{hexText}
+use Rattle.report_lines.specs.Lines.{refusal}
+use Rattle.call_answers.specs.Answers.{cellsText, boundText, planText, scheduleShown}
+use Rattle.call_answers.specs.Inner.{frontText, writtenShown}
 
 -- The nine cells, where there are so many counters.
 pub cells-none : (s t : ℕ × List ℕ) (counters : List ℕ) (n : ℕ) → length counters < 9 * n + 9 → t ≡ puts s (letters "cells" ∷ []) → t ≡ puts s (cellsText counters n)
@@ -66,12 +69,12 @@ unfolding frontText
 front-long t u n bytes l e = rw (le-leb _ _ l) (rw (sub-zero n) at e)
 
 abbrev shown : Outcome ℕ × List ℕ → List (List ℕ)
-shown (o, bytes) = writtenText o bytes
+shown (o, bytes) = writtenShown o bytes
 
 -- A writing into a slice with room for all bytes shows these, or 14.
 pub writing-shown : (p : Bool) (bytes out new : List ℕ) (o : Outcome ℕ) → (p ≡ true → length bytes ≤ length out) → (o, new) ≡ handed p bytes out
-    → writtenText o new ≡ cond p (hexText bytes) (refusal 14 0)
-unfolding handed written writtenText frontText
+    → writtenShown o new ≡ cond p (hexText bytes) (refusal 14 0)
+unfolding handed written writtenShown frontText
 writing-shown p bytes out new o room e =
     ap shown e ∙ go p room
   where
@@ -92,14 +95,14 @@ writing-shown p bytes out new o room e =
 
 -- A slice of 763 bytes has room for every plan, one of 379 for every schedule.
 pub plan-shown : (s : Site) (t : ℕ × List ℕ) (out new : List ℕ) (o : Outcome ℕ) → length out ≡ 763 → (o, new) ≡ writtenIf s (planBytes s) out
-    → puts t (writtenText o new) ≡ puts t (planText s)
+    → puts t (writtenShown o new) ≡ puts t (planText s)
 unfolding planText
 plan-shown s t out new o long e =
     ap (λ (ps : List (List ℕ)). puts t ps) (writing-shown (passesOf s) (planBytes s) out new o (λ q. omega (arith, plan-short s q)) e)
 
 pub schedule-shown : (s : Site) (t : ℕ × List ℕ) (out new : List ℕ) (o : Outcome ℕ) → length out ≡ 379
-    → (o, new) ≡ writtenIf s (scheduleBytes (scheduleOf s)) out → puts t (writtenText o new) ≡ puts t (scheduleText s)
-unfolding scheduleText scheduleOf
+    → (o, new) ≡ writtenIf s (scheduleBytes (scheduleOf s)) out → puts t (writtenShown o new) ≡ puts t (scheduleShown s)
+unfolding scheduleShown scheduleOf
 schedule-shown s t out new o long e =
     ap (λ (ps : List (List ℕ)). puts t ps)
     (writing-shown (passesOf s) (scheduleBytes (scheduleOf s)) out new o

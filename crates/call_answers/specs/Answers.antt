@@ -1,19 +1,21 @@
 -- What is shown of a site and its counters while calls are made on them, as pieces of text.
 use Prim.Native.Nat.{ℕ, _+_, _*_}
 use mathlib.Core.Bool.{cond}
-use mathlib.Core.List.{List, [], _∷_, _++_}
+use mathlib.Core.List.{List, [], _∷_}
 use lib.Dec.{leb}
 use lib.ListN.{length, getD, take, drop}
-use Rattle.pinwheel.specs.Outcome.{Outcome, accepted, refused}
+use Rattle.rulings.specs.Outcome.{Outcome, accepted, refused}
 use Rattle.site.specs.declared.Site.{Site}
 use Rattle.site.specs.Sites.{live}
-use Rattle.site.specs.Reservations.{delayBound}
-use Rattle.limits.specs.Check.{passesOf}
-use Rattle.writer.specs.Write.{scheduleOf, planBytes, scheduleBytes}
+use Rattle.reservations.specs.Reservations.{delayBound}
+use Rattle.site_check.specs.Check.{passesOf}
+use Rattle.schedule_writer.specs.Write.{scheduleOf, scheduleBytes}
+use Rattle.plan_writer.specs.Write.{planBytes}
 use Rattle.text.specs.Letters.{letters}
 use Rattle.text.specs.Decimal.{decimal}
-use Rattle.text.specs.Listed.{each, spacedDecimal, hexText}
-use Rattle.report.specs.Report.{refusal}
+use Rattle.text.specs.Listed.{each, spacedDecimal}
+use Rattle.hexadecimal.specs.Hexadecimal.{hexText}
+use Rattle.report_lines.specs.Lines.{refusal}
 
 -- The child that sends, or the refusal of the lookup.
 unfoldable pub lookupText : Outcome ℕ → List (List ℕ)
@@ -35,5 +37,5 @@ boundText s number =
 unfoldable pub planText : Site → List (List ℕ)
 planText s = cond (passesOf s) (hexText (planBytes s)) (refusal 14 0)
 
-unfoldable pub scheduleText : Site → List (List ℕ)
-scheduleText s = cond (passesOf s) (hexText (scheduleBytes (scheduleOf s))) (refusal 14 0)
+unfoldable pub scheduleShown : Site → List (List ℕ)
+scheduleShown s = cond (passesOf s) (hexText (scheduleBytes (scheduleOf s))) (refusal 14 0)

@@ -1,13 +1,13 @@
 // What is shown of a site and its counters while calls are made on them.
-use simulation::Lookup;
+use sender::Lookup;
 use site::Site;
-use writer::Written;
+use slices::Written;
 ghost use mathlib.Core.Path.{_≡_};
 ghost use Rattle.text.specs.Put.{puts};
-ghost use Rattle.simulation.specs.Sender.{found};
-ghost use Rattle.writer.specs.Write.{writing};
-ghost use Rattle.call_answers.specs.Answers.{lookupText, cellsText, boundText, planText, scheduleText};
-ghost use Rattle.call_answers.specs.Inner.{frontText, writtenText};
+ghost use Rattle.sender.specs.Sender.{found};
+ghost use Rattle.slices.specs.Written.{writing};
+ghost use Rattle.call_answers.specs.Answers.{lookupText, cellsText, boundText, planText, scheduleShown};
+ghost use Rattle.call_answers.specs.Inner.{frontText, writtenShown};
 
 // The child that sends, or the refusal.
 pub fn put_lookup(out: &mut [u8], at: usize, lookup: Lookup) -> usize
@@ -15,7 +15,7 @@ pub fn put_lookup(out: &mut [u8], at: usize, lookup: Lookup) -> usize
 {
     match lookup {
         Lookup::Child(child) => text::put_field(out, at, b"sender ", child as u64),
-        Lookup::Refused(number, place) => report::put_refusal(out, at, number, place),
+        Lookup::Refused(number, place) => report_lines::put_refusal(out, at, number, place),
     }
 }
 
@@ -25,7 +25,7 @@ pub fn put_cells(out: &mut [u8], at: usize, counters: &[u32], number: u8) -> usi
 {
     let start = 9 * number as usize;
     let end = start + 9;
-    let named = text::put(out, at, b"cells");
+    let named = slices::put(out, at, b"cells");
     if counters.len() < end {
         return named;
     }
@@ -37,9 +37,9 @@ pub fn put_bound(out: &mut [u8], at: usize, site: Site, number: u8) -> usize
     ensures { λ r. ⌜ (r, now (out .exit)) ≡ puts (at, now (out .entry)) (boundText site number) ⌝ }
 {
     if !site::is_live(site, number) {
-        return text::put(out, at, b"not live");
+        return slices::put(out, at, b"not live");
     }
-    let bound = site::delay_bound(site, number);
+    let bound = reservations::delay_bound(site, number);
     let deadline = site.deadlines[number as usize];
     let bounded = text::put_field(out, at, b"bound ", bound as u64);
     text::put_field(out, bounded, b" deadline ", deadline as u64)
@@ -52,16 +52,16 @@ fn put_front(out: &mut [u8], at: usize, bytes: &[u8], n: usize) -> usize
     if bytes.len() < n {
         return at;
     }
-    text::put_bytes(out, at, &bytes[0..n])
+    hexadecimal::put_bytes(out, at, &bytes[0..n])
 }
 
 // The bytes that a writer put at the front of a slice, or its refusal.
 fn put_written(out: &mut [u8], at: usize, written: Written, bytes: &[u8]) -> usize
-    ensures { λ r. ⌜ (r, now (out .exit)) ≡ puts (at, now (out .entry)) (writtenText (writing written) (now (bytes .entry))) ⌝ }
+    ensures { λ r. ⌜ (r, now (out .exit)) ≡ puts (at, now (out .entry)) (writtenShown (writing written) (now (bytes .entry))) ⌝ }
 {
     match written {
         Written::Length(n) => put_front(out, at, bytes, n),
-        Written::Refused(number, place) => report::put_refusal(out, at, number, place),
+        Written::Refused(number, place) => report_lines::put_refusal(out, at, number, place),
     }
 }
 
@@ -70,15 +70,15 @@ pub fn put_plan(out: &mut [u8], at: usize, site: Site) -> usize
     ensures { λ r. ⌜ (r, now (out .exit)) ≡ puts (at, now (out .entry)) (planText site) ⌝ }
 {
     let mut bytes = [0u8; 763];
-    let written = writer::write_plan(site, &mut bytes);
+    let written = plan_writer::write_plan(site, &mut bytes);
     put_written(out, at, written, &bytes)
 }
 
 // The schedule bytes of the site: 63 LINKs and END take 379.
 pub fn put_schedule(out: &mut [u8], at: usize, site: Site) -> usize
-    ensures { λ r. ⌜ (r, now (out .exit)) ≡ puts (at, now (out .entry)) (scheduleText site) ⌝ }
+    ensures { λ r. ⌜ (r, now (out .exit)) ≡ puts (at, now (out .entry)) (scheduleShown site) ⌝ }
 {
     let mut bytes = [0u8; 379];
-    let written = writer::write_schedule(site, &mut bytes);
+    let written = schedule_writer::write_schedule(site, &mut bytes);
     put_written(out, at, written, &bytes)
 }

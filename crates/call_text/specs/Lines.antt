@@ -6,8 +6,9 @@ use lib.Dec.{eqb}
 use lib.ListN.{length, getD, drop, set, replicate}
 use Rattle.text.specs.Letters.{letters}
 use Rattle.text.specs.Decimal.{valueOf, isNumber}
-use Rattle.words.specs.Parts.{is, before}
-use Rattle.words.specs.Words.{wordsOf, none, alike, said}
+use Rattle.line_words.specs.Parts.{is, before}
+use Rattle.line_words.specs.Words.{wordsOf, none, said}
+use Rattle.lists.specs.Lists.{same}
 use Rattle.call_text.specs.declared.Call.the-variants.{Start, Slot, Admit, Release}
 use Rattle.call_text.specs.declared.Question.the-variants.{Sender, Cells, Bound, Plan, Schedule, Show, Typed}
 use Rattle.call_text.specs.declared.Line.{Line}
@@ -27,34 +28,34 @@ numbers (most ∷ limits) (word ∷ words) = isNumber word most && numbers limit
 -- A line of one word.
 unfoldable pub loneOf : List ℕ → Line
 loneOf name =
-    cond (alike name (letters "start")) (Makes Start)
-    (cond (alike name (letters "plan")) (Asks Plan)
-    (cond (alike name (letters "schedule")) (Asks Schedule)
-    (cond (alike name (letters "show")) (Asks Show)
-    (cond (alike name (letters "typed")) (Asks Typed)
+    cond (same name (letters "start")) (Makes Start)
+    (cond (same name (letters "plan")) (Asks Plan)
+    (cond (same name (letters "schedule")) (Asks Schedule)
+    (cond (same name (letters "show")) (Asks Show)
+    (cond (same name (letters "typed")) (Asks Typed)
     Malformed))))
 
 -- admit NUMBER NODE RATE DEADLINE.
-unfoldable pub admitOf : List (List ℕ) → Line
-admitOf words =
+unfoldable pub admitLine : List (List ℕ) → Line
+admitLine words =
     cond (numbers (255 ∷ 255 ∷ 255 ∷ 65535 ∷ []) words)
     (Makes (Admit (record { number = said words 0; entry = said words 1; rate = said words 2; deadline = said words 3 })))
     Malformed
 
 -- release NUMBER.
-unfoldable pub releaseOf : List (List ℕ) → Line
-releaseOf words = cond (numbers (255 ∷ []) words) (Makes (Release (said words 0))) Malformed
+unfoldable pub releaseLine : List (List ℕ) → Line
+releaseLine words = cond (numbers (255 ∷ []) words) (Makes (Release (said words 0))) Malformed
 
 -- sender PARENT T.
-unfoldable pub senderOf : List (List ℕ) → Line
-senderOf words = cond (numbers (255 ∷ 4294967295 ∷ []) words) (Asks (Sender (said words 0) (said words 1))) Malformed
+unfoldable pub senderLine : List (List ℕ) → Line
+senderLine words = cond (numbers (255 ∷ 4294967295 ∷ []) words) (Asks (Sender (said words 0) (said words 1))) Malformed
 
 -- cells NUMBER and bound NUMBER.
-unfoldable pub flowOf : List ℕ → List (List ℕ) → Line
-flowOf name words =
+unfoldable pub flowQuestion : List ℕ → List (List ℕ) → Line
+flowQuestion name words =
     cond (numbers (63 ∷ []) words)
-    (cond (alike name (letters "cells")) (Asks (Cells (said words 0)))
-    (cond (alike name (letters "bound")) (Asks (Bound (said words 0)))
+    (cond (same name (letters "cells")) (Asks (Cells (said words 0)))
+    (cond (same name (letters "bound")) (Asks (Bound (said words 0)))
     Malformed))
     Malformed
 
@@ -91,24 +92,24 @@ slotWith t (true, counts) = record { line = Makes (Slot t); arrivals = counts }
 slotWith t (false, counts) = alone Malformed
 
 -- slot T N=K N=K ..
-unfoldable pub slotOf : List (List ℕ) → Asked
-slotOf [] = alone Malformed
-slotOf (word ∷ words) =
+unfoldable pub slotLine : List (List ℕ) → Asked
+slotLine [] = alone Malformed
+slotLine (word ∷ words) =
     cond (isNumber word 4294967295) (slotWith (valueOf word) (arrivalsOf words)) (alone Malformed)
 
 -- A line of another name.
 unfoldable pub otherOf : List ℕ → List (List ℕ) → Line
 otherOf name words =
     cond (none words) (loneOf name)
-    (cond (alike name (letters "admit")) (admitOf words)
-    (cond (alike name (letters "release")) (releaseOf words)
-    (cond (alike name (letters "sender")) (senderOf words)
-    (flowOf name words))))
+    (cond (same name (letters "admit")) (admitLine words)
+    (cond (same name (letters "release")) (releaseLine words)
+    (cond (same name (letters "sender")) (senderLine words)
+    (flowQuestion name words))))
 
 -- What words ask for: the first names it, the others are its operands.
 unfoldable pub requestOf : List (List ℕ) → Asked
 requestOf [] = alone PassedOver
-requestOf (name ∷ words) = cond (alike name (letters "slot")) (slotOf words) (alone (otherOf name words))
+requestOf (name ∷ words) = cond (same name (letters "slot")) (slotLine words) (alone (otherOf name words))
 
 -- A line that begins with `#` is passed over, as one without words.
 unfoldable pub askedOf : List ℕ → Asked

@@ -1,18 +1,18 @@
 // What a line of a planner asks for.
+use line_words::Operand;
+use line_words::blank;
+use line_words::find;
+use line_words::next_operand;
+use line_words::next_word;
+use line_words::read_number;
 use site::Flow;
-use words::Operand;
-use words::blank;
-use words::find;
-use words::next_operand;
-use words::next_word;
-use words::read_number;
-use words::same;
+use slices::same;
 ghost use mathlib.Core.Path.{_≡_};
 ghost use mathlib.Core.Bool.{_&&_};
 ghost use lib.Dec.{eqb};
 ghost use lib.ListN.{length, getD, drop};
-ghost use Rattle.words.specs.Words.{wordsOf, none};
-ghost use Rattle.call_text.specs.Lines.{alone, loneOf, admitOf, releaseOf, senderOf, flowOf, arrivalsOf, slotOf, otherOf, askedOf};
+ghost use Rattle.line_words.specs.Words.{wordsOf, none};
+ghost use Rattle.call_text.specs.Lines.{alone, loneOf, admitLine, releaseLine, senderLine, flowQuestion, arrivalsOf, slotLine, otherOf, askedOf};
 ghost use Rattle.call_text.specs.Inner.{takenOf};
 
 // A call that may change the site or the counters, with its operands; the arrivals of a slot stand beside it.
@@ -106,7 +106,7 @@ fn lone_line(name: &[u8]) -> Line
 }
 
 fn admit_line(line: &[u8], from: usize) -> Line
-    ensures { λ r. ⌜ r ≡ admitOf (wordsOf (drop from (now (line .entry)))) ⌝ }
+    ensures { λ r. ⌜ r ≡ admitLine (wordsOf (drop from (now (line .entry)))) ⌝ }
 {
     let number = next_operand(line, from, 255);
     let entry = next_operand(line, number.next, 255);
@@ -125,7 +125,7 @@ fn admit_line(line: &[u8], from: usize) -> Line
 
 // A number that is released may be any of 8 bits: the library judges it.
 fn release_line(line: &[u8], from: usize) -> Line
-    ensures { λ r. ⌜ r ≡ releaseOf (wordsOf (drop from (now (line .entry)))) ⌝ }
+    ensures { λ r. ⌜ r ≡ releaseLine (wordsOf (drop from (now (line .entry)))) ⌝ }
 {
     let number = next_operand(line, from, 255);
     if !complete(line, number) {
@@ -135,7 +135,7 @@ fn release_line(line: &[u8], from: usize) -> Line
 }
 
 fn sender_line(line: &[u8], from: usize) -> Line
-    ensures { λ r. ⌜ r ≡ senderOf (wordsOf (drop from (now (line .entry)))) ⌝ }
+    ensures { λ r. ⌜ r ≡ senderLine (wordsOf (drop from (now (line .entry)))) ⌝ }
 {
     let parent = next_operand(line, from, 255);
     let slot = next_operand(line, parent.next, 4294967295);
@@ -147,7 +147,7 @@ fn sender_line(line: &[u8], from: usize) -> Line
 
 // A line that asks for something of one flow.
 fn flow_line(name: &[u8], line: &[u8], from: usize) -> Line
-    ensures { λ r. ⌜ r ≡ flowOf (now (name .entry)) (wordsOf (drop from (now (line .entry)))) ⌝ }
+    ensures { λ r. ⌜ r ≡ flowQuestion (now (name .entry)) (wordsOf (drop from (now (line .entry)))) ⌝ }
 {
     let flow = next_operand(line, from, 63);
     if !complete(line, flow) {
@@ -216,7 +216,7 @@ fn read_arrivals(line: &[u8], from: usize) -> Arrivals
 }
 
 fn slot_line(line: &[u8], from: usize) -> Asked
-    ensures { λ r. ⌜ r ≡ slotOf (wordsOf (drop from (now (line .entry)))) ⌝ }
+    ensures { λ r. ⌜ r ≡ slotLine (wordsOf (drop from (now (line .entry)))) ⌝ }
 {
     let slot = next_operand(line, from, 4294967295);
     if !slot.given {

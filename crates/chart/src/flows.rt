@@ -5,20 +5,6 @@ use printing::print_front;
 use site::Site;
 ghost use Prim.Native.Nat.{_≤_};
 
-pub(crate) fn flow_count(site: Site) -> u64
-    ensures { λ r. ⌜ r ≤ 64 ⌝ }
-{
-    let mut count = 0;
-    let mut n = 0;
-    while n < 64 {
-        if site.states[n] == 1 {
-            count += 1;
-        }
-        n += 1;
-    }
-    count
-}
-
 pub(crate) fn table_height(flows: u64) -> u64
     requires { ⌜ flows ≤ 64 ⌝ }
     ensures { λ r. ⌜ r ≤ 2000 ⌝ }
@@ -40,7 +26,7 @@ fn put_figures(out: &mut [u8], at: usize, rate: u8, bound: u32, deadline: u16) -
         b"</text><text class=\"end\" x=\"650\">",
         deadline as u64,
     );
-    text::put(out, due, b"</text>")
+    slices::put(out, due, b"</text>")
 }
 
 fn print_flow(site: Site, number: u8, y: u64)
@@ -50,7 +36,7 @@ fn print_flow(site: Site, number: u8, y: u64)
     let entry = site.entries[n];
     let rate = site.rates[n];
     let deadline = site.deadlines[n];
-    let bound = site::delay_bound(site, number);
+    let bound = reservations::delay_bound(site, number);
     let mut line = io::buffer();
     let begun = text::put_field(&mut line, 0, b"<g id=\"flow", number as u64);
     let low = text::put_field(&mut line, begun, b"\" transform=\"translate(0 ", y);
@@ -60,11 +46,11 @@ fn print_flow(site: Site, number: u8, y: u64)
         b")\"><text class=\"end\" x=\"64\">",
         number as u64,
     );
-    let left = text::put(&mut line, named, b"</text><text x=\"88\">");
+    let left = slices::put(&mut line, named, b"</text><text x=\"88\">");
     let routed = put_route(&mut line, left, &site.parents, entry);
-    let arrived = text::put(&mut line, routed, b"server</text>");
+    let arrived = slices::put(&mut line, routed, b"server</text>");
     let told = put_figures(&mut line, arrived, rate, bound, deadline);
-    let ended = text::put(&mut line, told, b"</g>\n");
+    let ended = slices::put(&mut line, told, b"</g>\n");
     print_front(&line, ended);
 }
 
@@ -95,7 +81,7 @@ pub(crate) fn print_table(site: Site, flows: u64, y: u64)
 {
     let mut line = io::buffer();
     let low = text::put_field(&mut line, 0, b"<g id=\"flows\" transform=\"translate(0 ", y);
-    let named = text::put(
+    let named = slices::put(
         &mut line,
         low,
         b")\">\n<text class=\"bold\" x=\"24\" y=\"18\" font-size=\"14\">flows</text>\n",

@@ -7,7 +7,7 @@ mod rows;
 
 use page::print_head;
 use page::print_tail;
-use schedule::Verdict;
+use rulings::Verdict;
 use site::Site;
 
 // A plan without links has neither slots nor flows to show.
@@ -26,7 +26,7 @@ fn print_site(site: Site) {
         print_wired();
         return;
     }
-    let flows = flows::flow_count(site);
+    let flows = site::flow_count(site);
     let size = panels::size_of(site);
     let below = size.height;
     print_head(size.width, below + flows::table_height(flows));
@@ -37,7 +37,7 @@ fn print_site(site: Site) {
 }
 
 fn print_plan(bytes: &[u8]) {
-    let read = reader::read_plan(bytes);
+    let read = plan_reader::read_plan(bytes);
     let verdict = read.verdict;
     match verdict {
         Verdict::Accepted => print_site(read.site),

@@ -24,7 +24,7 @@ pub(crate) fn print_head(width: u64, height: u64) {
     let tall = text::put_field(&mut line, wide, b"\" height=\"", height);
     let seen = text::put_field(&mut line, tall, b"\" viewBox=\"0 0 ", width);
     let whole = text::put_field(&mut line, seen, b" ", height);
-    let ended = text::put(
+    let ended = slices::put(
         &mut line,
         whole,
         b"\" font-family=\"sans-serif\" font-size=\"12\" fill=\"#20262d\">\n<title>Slot plan</title>\n",
@@ -52,18 +52,18 @@ pub(crate) fn print_stripes(width: u64, top: u64, rows: u64)
     let left = text::put_field(&mut line, wide, b"\" d=\"M", 24 + width / 2);
     let high = text::put_field(&mut line, left, b" ", top);
     let low = text::put_field(&mut line, high, b"v", 20 * rows);
-    let ended = text::put(&mut line, low, b"\"/>\n");
+    let ended = slices::put(&mut line, low, b"\"/>\n");
     print_front(&line, ended);
 }
 
 // Puts a number of things, with its plural.
 pub(crate) fn put_count(out: &mut [u8], at: usize, count: u64, thing: &[u8]) -> usize {
     let counted = text::put_decimal(out, at, count);
-    let named = text::put(out, counted, thing);
+    let named = slices::put(out, counted, thing);
     if count == 1 {
         return named;
     }
-    text::put(out, named, b"s")
+    slices::put(out, named, b"s")
 }
 
 fn print_legend() {
@@ -79,15 +79,15 @@ fn print_legend() {
 // What is drawn, and what the colours mean.
 pub(crate) fn print_heading(links: u64, flows: u64) {
     let mut line = io::buffer();
-    let begun = text::put(
+    let begun = slices::put(
         &mut line,
         0,
         b"<text x=\"24\" y=\"36\"><tspan class=\"bold\" font-size=\"20\">Slot plan</tspan> <tspan class=\"grey\" dx=\"12\" font-size=\"14\">",
     );
     let linked = put_count(&mut line, begun, links, b" link");
-    let parted = text::put(&mut line, linked, b", ");
+    let parted = slices::put(&mut line, linked, b", ");
     let flown = put_count(&mut line, parted, flows, b" flow");
-    let ended = text::put(&mut line, flown, b"</tspan></text>\n");
+    let ended = slices::put(&mut line, flown, b"</tspan></text>\n");
     print_front(&line, ended);
     print_legend();
 }

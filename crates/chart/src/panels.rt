@@ -85,7 +85,7 @@ pub(crate) fn size_of(site: Site) -> Size
 
 pub(crate) fn put_parent(out: &mut [u8], at: usize, parent: usize) -> usize {
     if parent == 0 {
-        return text::put(out, at, b"under server (node 0)");
+        return slices::put(out, at, b"under server (node 0)");
     }
     text::put_field(out, at, b"under node ", parent as u64)
 }
@@ -95,7 +95,7 @@ fn put_shown(out: &mut [u8], at: usize, frame: u16) -> usize {
         return at;
     }
     let whole = text::put_field(out, at, b", first 128 of ", frame as u64);
-    text::put(out, whole, b" slots shown")
+    slices::put(out, whole, b" slots shown")
 }
 
 fn print_title(site: Site, parent: u8, frame: u16, y: u64) {
@@ -104,7 +104,7 @@ fn print_title(site: Site, parent: u8, frame: u16, y: u64) {
     let idle = idle_count(site, parent, frame as usize);
     let begun = text::put_field(&mut line, 0, b"<g id=\"node", parent as u64);
     let low = text::put_field(&mut line, begun, b"\" transform=\"translate(0 ", y);
-    let bold = text::put(
+    let bold = slices::put(
         &mut line,
         low,
         b")\">\n<text x=\"24\" y=\"18\" font-size=\"14\"><tspan class=\"bold\">",
@@ -116,12 +116,12 @@ fn print_title(site: Site, parent: u8, frame: u16, y: u64) {
         b"</tspan> <tspan class=\"grey\" dx=\"8\">base ",
         base as u64,
     );
-    let parted = text::put(&mut line, based, b", frame of ");
+    let parted = slices::put(&mut line, based, b", frame of ");
     let framed = put_count(&mut line, parted, frame as u64, b" slot");
     let counted = text::put_field(&mut line, framed, b", ", idle as u64);
-    let told = text::put(&mut line, counted, b" idle");
+    let told = slices::put(&mut line, counted, b" idle");
     let shown = put_shown(&mut line, told, frame);
-    let ended = text::put(&mut line, shown, b"</tspan></text>\n");
+    let ended = slices::put(&mut line, shown, b"</tspan></text>\n");
     print_front(&line, ended);
 }
 
@@ -138,13 +138,13 @@ fn print_edges(class: &[u8], apart: u64, middle: u64, height: u64, span: u64)
     requires { ⌜ (1 ≤ apart) × (span ≤ 1024) ⌝ }
 {
     let mut line = io::buffer();
-    let begun = text::put(&mut line, 0, b"<path class=\"");
-    let named = text::put(&mut line, begun, class);
+    let begun = slices::put(&mut line, 0, b"<path class=\"");
+    let named = slices::put(&mut line, begun, class);
     let dashed = text::put_field(&mut line, named, b"\" stroke-dasharray=\"1 ", apart - 1);
     let tall = text::put_field(&mut line, dashed, b"\" stroke-width=\"", height);
     let low = text::put_field(&mut line, tall, b"\" d=\"M424 ", middle);
     let wide = text::put_field(&mut line, low, b"h", span + 1);
-    let ended = text::put(&mut line, wide, b"\"/>\n");
+    let ended = slices::put(&mut line, wide, b"\"/>\n");
     print_front(&line, ended);
 }
 
@@ -203,7 +203,7 @@ fn print_panel(site: Site, parent: u8, loads: [u32; 63], y: u64) -> u64
 
 pub(crate) fn print_panels(site: Site) {
     let links = site::link_count(site.links);
-    let loads = site::loads(site);
+    let loads = reservations::loads(site);
     let mut y = 84;
     let mut parent = 0;
     while parent <= links {

@@ -17,22 +17,22 @@ fn put_place(out: &mut [u8], at: usize, number: u8, place: usize) -> usize {
 // Bytes that are no commands in their order.
 fn put_form_rule(out: &mut [u8], at: usize, number: u8) -> usize {
     match number {
-        2 => text::put(
+        2 => slices::put(
             out,
             at,
             b": a command is cut off here, or the plan does not end with FF",
         ),
-        3 => text::put(
+        3 => slices::put(
             out,
             at,
             b": no command begins with this byte; a node begins with 01, a flow with 02, and FF is the end",
         ),
-        4 => text::put(
+        4 => slices::put(
             out,
             at,
             b": a node stands behind a flow; all nodes come first",
         ),
-        10 => text::put(out, at, b": something follows behind FF, which ends a plan"),
+        10 => slices::put(out, at, b": something follows behind FF, which ends a plan"),
         _ => at,
     }
 }
@@ -40,22 +40,22 @@ fn put_form_rule(out: &mut [u8], at: usize, number: u8) -> usize {
 // Operands that are not allowed. Where one fills its width, it has no upper limit.
 fn put_operand_rule(out: &mut [u8], at: usize, number: u8) -> usize {
     match number {
-        5 => text::put(
+        5 => slices::put(
             out,
             at,
             b": a value here is outside its limits (gap 1 to 1024, flow number 0 to 63; capacity, rate and deadline at least 1)",
         ),
-        6 => text::put(
+        6 => slices::put(
             out,
             at,
             b": the parent or entry node is not one of the nodes before, or the flow number is not above the last",
         ),
-        7 => text::put(
+        7 => slices::put(
             out,
             at,
             b": this would be node 64, and a plan has 63 at most",
         ),
-        8 => text::put(
+        8 => slices::put(
             out,
             at,
             b": this node is more than 8 links away from the server",
@@ -67,17 +67,17 @@ fn put_operand_rule(out: &mut [u8], at: usize, number: u8) -> usize {
 // What the number of a refusal says.
 fn put_rule(out: &mut [u8], at: usize, number: u8) -> usize {
     match number {
-        11 => text::put(
+        11 => slices::put(
             out,
             at,
             b": no base of the slot rule gives every link there its slots; it needs larger gaps or fewer links",
         ),
-        12 => text::put(
+        12 => slices::put(
             out,
             at,
             b": the flows through this link reserve more than its capacity",
         ),
-        13 => text::put(
+        13 => slices::put(
             out,
             at,
             b": the periods on its route sum to more than its deadline",
@@ -89,16 +89,16 @@ fn put_rule(out: &mut [u8], at: usize, number: u8) -> usize {
 pub(crate) fn print_refusal(number: u8, place: usize) {
     let mut line = io::buffer();
     print_head(1000, 80);
-    let begun = text::put(
+    let begun = slices::put(
         &mut line,
         0,
         b"<text class=\"bold\" x=\"24\" y=\"36\" font-size=\"20\">Slot plan</text>\n<text id=\"refused\" x=\"24\" y=\"62\" font-size=\"13\">refused ",
     );
     let named = text::put_decimal(&mut line, begun, number as u64);
-    let spaced = text::put(&mut line, named, b" ");
+    let spaced = slices::put(&mut line, named, b" ");
     let placed = put_place(&mut line, spaced, number, place);
     let told = put_rule(&mut line, placed, number);
-    let ended = text::put(&mut line, told, b"</text>\n");
+    let ended = slices::put(&mut line, told, b"</text>\n");
     print_front(&line, ended);
     print_tail();
 }

@@ -60,7 +60,7 @@ fn put_number(out: &mut [u8], at: usize, x: u64, y: u64, slot: usize) -> usize {
     let left = text::put_field(out, at, b"<text x=\"", x);
     let low = text::put_field(out, left, b"\" y=\"", y);
     let named = text::put_field(out, low, b"\">", slot as u64);
-    text::put(out, named, b"</text>")
+    slices::put(out, named, b"</text>")
 }
 
 fn put_numbers(out: &mut [u8], at: usize, y: u64, scale: Scale) -> usize
@@ -82,9 +82,9 @@ pub(crate) fn print_axis(y: u64, scale: Scale)
     requires { ⌜ Scaled scale ⌝ }
 {
     let mut line = io::buffer();
-    let begun = text::put(&mut line, 0, b"<g class=\"numbers\">");
+    let begun = slices::put(&mut line, 0, b"<g class=\"numbers\">");
     let numbered = put_numbers(&mut line, begun, y, scale);
-    let ended = text::put(&mut line, numbered, b"</g>\n");
+    let ended = slices::put(&mut line, numbered, b"</g>\n");
     print_front(&line, ended);
 }
 
@@ -106,10 +106,10 @@ fn filled(load: u32, capacity: u16) -> u64 {
 }
 
 fn put_bar(out: &mut [u8], at: usize, class: &[u8], pixels: u64) -> usize {
-    let begun = text::put(out, at, b"<rect class=\"");
-    let named = text::put(out, begun, class);
+    let begun = slices::put(out, at, b"<rect class=\"");
+    let named = slices::put(out, begun, class);
     let wide = text::put_field(out, named, b"\" x=\"216\" y=\"6\" width=\"", pixels);
-    text::put(out, wide, b"\" height=\"9\"/>")
+    slices::put(out, wide, b"\" height=\"9\"/>")
 }
 
 fn put_fill(out: &mut [u8], at: usize, load: u32, capacity: u16) -> usize {
@@ -129,7 +129,7 @@ fn put_load(out: &mut [u8], at: usize, load: u32, capacity: u16) -> usize {
         load as u64,
     );
     let whole = text::put_field(out, kept, b" of ", capacity as u64);
-    text::put(out, whole, b"</text>\n")
+    slices::put(out, whole, b"</text>\n")
 }
 
 fn put_slots(out: &mut [u8], at: usize, offset: u16, period: u16) -> usize {
@@ -140,27 +140,27 @@ fn put_slots(out: &mut [u8], at: usize, offset: u16, period: u16) -> usize {
         offset as u64,
     );
     let again = text::put_field(out, begun, b" every ", period as u64);
-    text::put(out, again, b"</text>\n")
+    slices::put(out, again, b"</text>\n")
 }
 
 fn put_name(out: &mut [u8], at: usize, node: usize, y: u64) -> usize {
     let begun = text::put_field(out, at, b"<g id=\"link", node as u64);
     let low = text::put_field(out, begun, b"\" transform=\"translate(0 ", y);
     let named = text::put_field(out, low, b")\"><text x=\"24\" y=\"14\">link ", node as u64);
-    text::put(out, named, b"</text>")
+    slices::put(out, named, b"</text>")
 }
 
 // The beginning of a path of marks, in which a slot is one wide and its mark one high.
 fn put_path(out: &mut [u8], at: usize, class: &[u8], width: u64) -> usize {
-    let begun = text::put(out, at, b"<path class=\"");
-    let named = text::put(out, begun, class);
+    let begun = slices::put(out, at, b"<path class=\"");
+    let named = slices::put(out, begun, class);
     let scaled = text::put_field(
         out,
         named,
         b"\" transform=\"translate(424 10) scale(",
         width,
     );
-    text::put(out, scaled, b" 12)\" d=\"")
+    slices::put(out, scaled, b" 12)\" d=\"")
 }
 
 // The row of a node's link.
@@ -177,7 +177,7 @@ pub(crate) fn print_link(site: Site, node: usize, y: u64, load: u32, scale: Scal
     let loaded = put_load(&mut line, timed, load, capacity);
     let drawn = put_path(&mut line, loaded, b"sends", scale.width);
     let marked = put_link_marks(&mut line, drawn, site, node as u8, scale.slots);
-    let ended = text::put(&mut line, marked, b"\"/></g>\n");
+    let ended = slices::put(&mut line, marked, b"\"/></g>\n");
     print_front(&line, ended);
 }
 
@@ -191,9 +191,9 @@ pub(crate) fn print_idle(site: Site, parent: u8, y: u64, scale: Scale) {
         b"\" class=\"grey\" transform=\"translate(0 ",
         y,
     );
-    let named = text::put(&mut line, low, b")\"><text x=\"24\" y=\"14\">idle</text>\n");
+    let named = slices::put(&mut line, low, b")\"><text x=\"24\" y=\"14\">idle</text>\n");
     let drawn = put_path(&mut line, named, b"idle", scale.width);
     let marked = put_idle_marks(&mut line, drawn, site, parent, scale.slots);
-    let ended = text::put(&mut line, marked, b"\"/></g>\n");
+    let ended = slices::put(&mut line, marked, b"\"/></g>\n");
     print_front(&line, ended);
 }

@@ -10,8 +10,8 @@ use lib.Seq.{length-take-le, drop-append-le, take-append-le, drop-append-add, dr
 use borrow.Author.Tests.{le-leb, lt-leb}
 use native.Mathlib.Nat.{mul-suc, mul-zero, mul-le-mul-left}
 use native.Mathlib.Omega.{arith}
-use Rattle.pinwheel.specs.Search.{joined}
-use Rattle.pinwheel.proofs.Laws.Search.{lt-or-le}
+use Rattle.lists.specs.Lists.{joined}
+use Rattle.lists.proofs.Laws.Search.{lt-or-le}
 use Rattle.counters.specs.Blocks.{block, withBlock, withCells, zeros, cleared}
 
 -- A block ends where the next begins, at the latest.

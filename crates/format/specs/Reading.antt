@@ -4,7 +4,7 @@ use mathlib.Core.Bool.{cond}
 use mathlib.Core.List.{List}
 use lib.Dec.{eqb, ltb}
 use lib.ListN.{length, getD}
-use Rattle.pinwheel.specs.Outcome.{Outcome, accepted, refused}
+use Rattle.rulings.specs.Outcome.{Outcome, accepted, refused}
 
 -- A kind of file: what has been read of it is an A, and the whole comes to a B. `size` is how many bytes a command takes, by its first one, and 0 where there is no
 -- such command. `later` is the first check behind 3 and 2 that the command at an index fails, 0 where it fails none, and `after` what has been read once it

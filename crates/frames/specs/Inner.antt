@@ -4,7 +4,7 @@ use mathlib.Core.Bool.{Bool, _&&_}
 use mathlib.Core.List.{List}
 use lib.Dec.{eqb}
 use lib.ListN.{getD}
-use Rattle.pinwheel.specs.Search.{any}
+use Rattle.lists.specs.Search.{any}
 use Rattle.pinwheel.specs.Rule.{sends}
 
 -- One of the first n links of these lists is a child of p and sends in slot t.

@@ -4,10 +4,10 @@ use mathlib.Core.Bool.{Bool, not, cond, _&&_}
 use mathlib.Core.List.{List, [], _∷_}
 use lib.Dec.{eqb}
 use lib.ListN.{getD}
-use Rattle.pinwheel.specs.Search.{any, largest, joined}
+use Rattle.lists.specs.Search.{any}
+use Rattle.lists.specs.Lists.{largest, joined, sumTo}
 use Rattle.site.specs.declared.Site.{Site}
 use Rattle.site.specs.Sites.{used}
-use Rattle.site.specs.Reservations.{sumTo}
 use Rattle.schedule.specs.Schedule.{gapsFrom, linkSends}
 use Rattle.text.specs.Letters.{letters}
 use Rattle.text.specs.Decimal.{decimal}

@@ -47,7 +47,7 @@ fn put_mark(out: &mut [u8], at: usize, slot: usize) -> usize
     ensures { λ r. ⌜ (r, now (out .exit)) ≡ puts (at, now (out .entry)) (mark slot) ⌝ }
 {
     let marked = text::put_field(out, at, b"M", slot as u64);
-    text::put(out, marked, b" 0h1")
+    slices::put(out, marked, b" 0h1")
 }
 
 fn put_marks(out: &mut [u8], at: usize, period: u16, offset: u16, slots: usize) -> usize
@@ -74,8 +74,8 @@ pub fn put_link_marks(out: &mut [u8], at: usize, site: Site, node: u8, slots: us
     if site.links < node {
         return at;
     }
-    let period = site::value_of(&site.periods, node);
-    let offset = site::value_of(&site.offsets, node);
+    let period = tree::value_of(&site.periods, node);
+    let offset = tree::value_of(&site.offsets, node);
     put_marks(out, at, period, offset, slots)
 }
 

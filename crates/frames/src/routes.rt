@@ -1,16 +1,16 @@
 // A flow's route as text.
-use site::parent_of;
+use tree::parent_of;
 ghost use mathlib.Core.Path.{_≡_};
 ghost use Rattle.text.specs.Put.{puts};
 ghost use Rattle.text.specs.Listed.{each};
-ghost use Rattle.site.specs.Tree.{route};
+ghost use Rattle.tree.specs.Tree.{route};
 ghost use Rattle.frames.specs.Routes.{hop};
 
 fn put_hop(out: &mut [u8], at: usize, node: u8) -> usize
     ensures { λ r. ⌜ (r, now (out .exit)) ≡ puts (at, now (out .entry)) (hop node) ⌝ }
 {
     let named = text::put_decimal(out, at, node as u64);
-    text::put(out, named, b" &gt; ")
+    slices::put(out, named, b" &gt; ")
 }
 
 // The links of the route from an entry node up.

@@ -12,18 +12,18 @@ use mathlib.Core.List.{List, [], _∷_, _++_, map}
 use lib.ListN.{length, drop}
 use borrow.Author.Tests.{lt-ltb, ltb-true}
 use native.Mathlib.Omega.{arith}
-use Rattle.pinwheel.specs.Outcome.{Ruling, accepted, refused, Ruled, nothing}
-use Rattle.pinwheel.specs.Search.{total}
-use Rattle.pinwheel.proofs.Laws.Outcomes.{refused-not}
+use Rattle.rulings.specs.Outcome.{Ruling, accepted, refused, Ruled, nothing}
+use Rattle.lists.specs.Lists.{total}
+use Rattle.rulings.proofs.Laws.Outcomes.{refused-not}
 use Rattle.site.specs.declared.Site.{Site}
 use Rattle.site.specs.declared.Flow.{Flow}
 use Rattle.site.specs.Sites.{live, withFlow, withoutFlow}
-use Rattle.site.specs.Tree.{has}
-use Rattle.site.specs.Reservations.{gapsJudged, routeOf, widthOn, late, delayBound}
-use Rattle.site.proofs.Laws.Reservations.{live-with}
-use Rattle.limits.specs.Check.{flowOf, passesOf}
-use Rattle.limits.proofs.Laws.{passes-sound, flow-taken, bound-within}
-use Rattle.limits.proofs.Laws.Flows.{live-few}
+use Rattle.tree.specs.Tree.{has}
+use Rattle.reservations.specs.Reservations.{periodsJudged, routeOf, widthOn, late, delayBound}
+use Rattle.site.proofs.Laws.Flows.{live-with}
+use Rattle.site_check.specs.Check.{flowOf, passesOf}
+use Rattle.site_check.proofs.Laws.{passes-sound, flow-taken, bound-within}
+use Rattle.site_check.proofs.Laws.Flows.{live-few}
 use Rattle.counters.specs.Blocks.{cellsOf}
 use Rattle.counters.proofs.Laws.{length-zeros}
 use Rattle.queues.specs.Cells.{Entry, steps, arrivals}
@@ -31,14 +31,16 @@ use Rattle.queues.specs.Pace.{All, Rising}
 use Rattle.queues.specs.Words.{HasLeft}
 use Rattle.queues.proofs.Laws.Delay.{span-some}
 use Rattle.plan.proofs.Laws as plan
-use Rattle.reader.specs.Read.{readOf}
-use Rattle.writer.specs.Write.{flowBytes, flowIfLive, planBytes}
+use Rattle.plan_reader.specs.Read.{readOf}
+use Rattle.plan_writer.specs.Write.{flowBytes, flowIfLive, planBytes}
 use Rattle.admission.specs.Calls.{admitOf, releaseOf}
 use Rattle.admission.specs.Words.{boundFor}
 use Rattle.admission.proofs.Laws.{admit-accepted, admit-refused, release-accepted, release-refused, bound-asked, cells-after, admitted-passes}
-use Rattle.simulation.specs.Hops.{Service, own, hopsOf}
-use Rattle.simulation.specs.Slot.{recounted, slotOf, startRuling, startOf}
-use Rattle.simulation.proofs.Laws.{slot-accepted, slot-refused, slot-cells, start-accepted, start-refused, start-cells, starts-when}
+use Rattle.moves.specs.Hops.{Service, own, hopsOf}
+use Rattle.moves.specs.Moves.{recounted}
+use Rattle.simulation.specs.Slot.{slotOf, startRuling, startOf}
+use Rattle.simulation.proofs.Laws.{slot-accepted, slot-refused, start-accepted, start-refused, start-cells, starts-when}
+use Rattle.moves.proofs.Laws.{slot-cells}
 use Rattle.guarantee.specs.Runs.{Call, slot, admit, release, start, State, Promise, called, checksOf, Log, Run, none, then, admissions}
 use Rattle.guarantee.specs.Demand.{entered, slotsOf, Stays, NoStart, rateOf, deadlineOf, boundOf, Begins, Allowed, Answered, Kept, newest}
 use Rattle.guarantee.specs.Words.{Exchanged, bytesBefore, bytesBehind, nodesAlone}
@@ -79,7 +81,7 @@ bound-some s e f l = span-some (rateOf s f) (hopsOf own s f) (own-some s e f l) 
 -- 02, U2: G is the number judged. The test of 13 is just whether a live flow's G, the one of demand 3, is above its deadline; and what 18 compares with the deadline of a
 -- flow that is to come is its G once it is live.
 pub judged-13 : (s : Site) (f : ℕ) → (late s f ≡ true) ↔ ((live s f ≡ true) × (deadlineOf s f < boundOf own s f))
-unfolding late gapsJudged delayBound
+unfolding late periodsJudged delayBound
 judged-13 s f = (
   λ e. let w = and-eq-true-iff (live s f) _ .0 e in (w .0, rw bound-is (ltb-true _ _ (w .1))),
   λ w. rw (w .0) (lt-ltb _ _ (rw bound-is at (w .1))),

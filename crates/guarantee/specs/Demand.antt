@@ -4,15 +4,15 @@ use mathlib.Core.Path.{_≡_}
 use mathlib.Core.Bool.{true}
 use mathlib.Core.List.{List, [], _∷_}
 use lib.ListN.{length, getD, drop}
-use Rattle.pinwheel.specs.Outcome.{Ruling, accepted, refused, Ruled, nothing}
-use Rattle.pinwheel.specs.Search.{total}
+use Rattle.rulings.specs.Outcome.{Ruling, accepted, refused, Ruled, nothing}
+use Rattle.lists.specs.Lists.{total}
 use Rattle.site.specs.declared.Site.{Site}
 use Rattle.site.specs.Sites.{live}
-use Rattle.limits.specs.Check.{passesOf}
+use Rattle.site_check.specs.Check.{passesOf}
 use Rattle.counters.specs.Blocks.{cellsOf, zeros}
 use Rattle.queues.specs.Cells.{Entry, arrived, steps, waiting, delivered, arrivals, span}
 use Rattle.queues.specs.Pace.{All, Rising, Within}
-use Rattle.simulation.specs.Hops.{Service, hopsOf}
+use Rattle.moves.specs.Hops.{Service, hopsOf}
 use Rattle.guarantee.specs.Runs.{Call, slot, admit, release, start, State, Log, Run, none, then, checksOf}
 
 -- 01: the accepted slots of a list as flow f sees them, newest first. A refused slot counts as none.

@@ -3,14 +3,14 @@ use Prim.Native.Nat.{ℕ, zero, suc}
 use mathlib.Core.Path.{_≡_}
 use mathlib.Core.Bool.{cond}
 use mathlib.Core.List.{List, [], _∷_}
-use Rattle.pinwheel.specs.Outcome.{Ruling, accepted, Checks}
+use Rattle.rulings.specs.Outcome.{Ruling, accepted, Checks}
 use Rattle.site.specs.declared.Site.{Site}
 use Rattle.site.specs.declared.Flow.{Flow}
 use Rattle.site.specs.Sites.{live}
-use Rattle.limits.specs.Check.{flowOf}
+use Rattle.site_check.specs.Check.{flowOf}
 use Rattle.admission.specs.Calls.{admitOf, releaseOf}
 use Rattle.admission.specs.Words.{admissionChecks, releaseChecks}
-use Rattle.simulation.specs.Hops.{Service}
+use Rattle.moves.specs.Hops.{Service}
 use Rattle.simulation.specs.Slot.{slotOf, startOf}
 use Rattle.simulation.specs.Words.{slotChecks, startChecks}
 

@@ -1,8 +1,4 @@
-// What 01 asks of a site's nodes and flows: their limits, and check 14 of a site that is handed in. Nothing here knows plan bytes.
-mod check;
-
-pub use check::call_fault;
-pub use check::passes;
+// The limits of nodes and flows. Nothing here knows plan bytes.
 use site::Flow;
 ghost use mathlib.Core.Path.{_≡_};
 ghost use Rattle.limits.specs.Limits.{nodeLimits, flowLimits};
@@ -30,7 +26,7 @@ pub fn node_limits(parents: &[u8; 63], k: u8, node: Node) -> u8
     if k < node.parent {
         return 6;
     }
-    if 8 <= site::depth(parents, node.parent) {
+    if 8 <= tree::depth(parents, node.parent) {
         return 8;
     }
     0

@@ -1,9 +1,4 @@
 -- What the definitions of the slot rule mean, in the order of 01's rules and for every factor from 2 up. The modules named here hold the lemmas.
-pub mod Choices
-pub mod Outcomes
-pub mod Search
-pub mod Lists
-pub mod Items
 pub mod Periods
 pub mod Bases
 pub mod Counting
@@ -11,6 +6,7 @@ pub mod Offsets
 pub mod Room
 pub mod Turns
 pub mod Checks
+pub mod Rows
 use Prim.Native.Nat.{ℕ, _*_, _^_, _/_, _%_, _≤_, _<_}
 use mathlib.Core.Path.{_≡_, refl, sym, _∙_, ap}
 use mathlib.Core.Bool.{Bool, true, false, not, false≢true}
@@ -20,17 +16,19 @@ use lib.ListN.{length, getD}
 use borrow.Author.Tests.{eq-eqb, eqb-true, le-leb, leb-true, not-true, not-false}
 use native.Mathlib.Nat.{mul-le-mul-left, mod-eq-of-lt, mod-mod-of-dvd, dvd-of-mod-eq-zero, div-add-mod'}
 use native.Mathlib.Omega.{arith}
-use Rattle.pinwheel.specs.Search.{last, total, largest, smallest}
+use Rattle.lists.specs.Search.{last}
+use Rattle.lists.specs.Lists.{total, largest, smallest}
 use Rattle.pinwheel.specs.Rule.{exponent, period, sum, limit, fits, base, periodsOf, earlier, taken, freeOffset, sends, offsetsOf}
-use Rattle.pinwheel.specs.Outcome.{Outcome, accepted, refused}
-use Rattle.pinwheel.specs.Deal.{dealt}
+use Rattle.rulings.specs.Outcome.{Outcome, accepted, refused}
+use Rattle.pinwheel.specs.Assign.{assigned}
 use Rattle.pinwheel.specs.Words.{Good, LargestFit, NoneFits, SendsIn, Once, Earlier, Meets, Free, SmallestFree}
-use Rattle.pinwheel.proofs.Laws.Outcomes.{refused-not}
-use Rattle.pinwheel.proofs.Laws.Search.{lt-or-le, first-passes, first-before, first-is}
+use Rattle.rulings.proofs.Laws.Outcomes.{refused-not}
+use Rattle.lists.proofs.Laws.Search.{lt-or-le, first-passes, first-before, first-is}
 use Rattle.pinwheel.proofs.Laws.Periods.{powers, exponent-most, period-within, period-least}
 use Rattle.pinwheel.proofs.Laws.Bases.{smallest-met, base-fits, base-period, base-none, limit-common, sum-shares, tried-hit}
 use Rattle.pinwheel.proofs.Laws.Counting.{class-once}
-use Rattle.pinwheel.proofs.Laws.Offsets.{Taker, earlier-why, earlier-below, earlier-same, earlier-le, taken-why, taken-by, Settled, offsets-settled, settled-unique}
+use Rattle.pinwheel.proofs.Laws.Offsets.{Taker, earlier-why, earlier-below, earlier-same, earlier-le, taken-why, taken-by, Settled, offsets-settled}
+use Rattle.pinwheel.proofs.Laws.Offsets.{settled-unique}
 use Rattle.pinwheel.proofs.Laws.Checks.{passed-good, refuse-crowded, accept}
 use Rattle.pinwheel.proofs.Laws.Room.{base-harmonic, base-roomy, periods-long, period-at}
 
@@ -52,46 +50,46 @@ module _ (f : ℕ) (two : 2 ≤ f) where
 
   -- The outcome on lists that are as 1 and 5 ask.
   outcome-base : (gaps offsets periods : List ℕ) → Good gaps offsets periods → 1 ≤ base f gaps
-      → dealt f gaps offsets periods .0 ≡ accepted (base f gaps)
+      → assigned f gaps offsets periods .0 ≡ accepted (base f gaps)
   outcome-base gaps offsets periods g h =
       sym (ap (λ (r : Outcome ℕ × List ℕ × List ℕ). r .0) (accept f gaps offsets periods g h _ _ _ refl refl refl))
 
-  outcome-none : (gaps offsets periods : List ℕ) → Good gaps offsets periods → base f gaps ≡ 0 → dealt f gaps offsets periods .0 ≡ refused 11 0
+  outcome-none : (gaps offsets periods : List ℕ) → Good gaps offsets periods → base f gaps ≡ 0 → assigned f gaps offsets periods .0 ≡ refused 11 0
   outcome-none gaps offsets periods g z = sym (ap (λ (r : Outcome ℕ × List ℕ × List ℕ). r .0) (refuse-crowded f gaps offsets periods g z))
 
   -- Rules 1 and 4. Accepted with the base b just when the lists are as 1 and 5 ask and b is the largest fitting base.
   pub accepted-when : (gaps offsets periods : List ℕ) (b : ℕ)
-      → (dealt f gaps offsets periods .0 ≡ accepted b) ↔ (Good gaps offsets periods × LargestFit f gaps b)
+      → (assigned f gaps offsets periods .0 ≡ accepted b) ↔ (Good gaps offsets periods × LargestFit f gaps b)
   accepted-when gaps offsets periods b = (λ e. (good e, fit e (lt-or-le 0 (base f gaps))), back)
     where
-      good : dealt f gaps offsets periods .0 ≡ accepted b → Good gaps offsets periods
+      good : assigned f gaps offsets periods .0 ≡ accepted b → Good gaps offsets periods
       good e = passed-good f gaps offsets periods (λ place q. refused-not _ q e) (λ place q. refused-not _ q e)
 
-      fit : dealt f gaps offsets periods .0 ≡ accepted b → (0 < base f gaps) ⊎ (base f gaps ≤ 0) → LargestFit f gaps b
+      fit : assigned f gaps offsets periods .0 ≡ accepted b → (0 < base f gaps) ⊎ (base f gaps ≤ 0) → LargestFit f gaps b
       fit e (inl l) =
           let q : b ≡ base f gaps = cc (outcome-base gaps offsets periods (good e) l) in
           rw q (base-fits f two gaps l)
       fit e (inr m) = absurd (refused-not _ (outcome-none gaps offsets periods (good e) (omega arith)) e)
 
-      back : Good gaps offsets periods × LargestFit f gaps b → dealt f gaps offsets periods .0 ≡ accepted b
+      back : Good gaps offsets periods × LargestFit f gaps b → assigned f gaps offsets periods .0 ≡ accepted b
       back (g, (one, within, fits-b, none)) =
           let q : b ≡ base f gaps = tried-hit f two gaps b (record { within = within; none = none }) fits-b in
           rw q (outcome-base gaps offsets periods g (rw q at one))
 
   -- Rule 4. Refused with 11 just when the lists are as 1 and 5 ask and no base from 1 to the smallest gap fits.
   pub crowded-when : (gaps offsets periods : List ℕ)
-      → (dealt f gaps offsets periods .0 ≡ refused 11 0) ↔ (Good gaps offsets periods × NoneFits f gaps)
+      → (assigned f gaps offsets periods .0 ≡ refused 11 0) ↔ (Good gaps offsets periods × NoneFits f gaps)
   crowded-when gaps offsets periods =
       (λ e. (good e, none e (lt-or-le 0 (base f gaps))), λ w. outcome-none gaps offsets periods (w .0) (base-none f two gaps .1 (w .1)))
     where
-      other : (number place : ℕ) → (11 ≡ number → ⊥) → dealt f gaps offsets periods .0 ≡ refused 11 0
-          → dealt f gaps offsets periods .0 ≡ refused number place → ⊥
+      other : (number place : ℕ) → (11 ≡ number → ⊥) → assigned f gaps offsets periods .0 ≡ refused 11 0
+          → assigned f gaps offsets periods .0 ≡ refused number place → ⊥
       other number place n e q = n cc
 
-      good : dealt f gaps offsets periods .0 ≡ refused 11 0 → Good gaps offsets periods
+      good : assigned f gaps offsets periods .0 ≡ refused 11 0 → Good gaps offsets periods
       good e = passed-good f gaps offsets periods (λ place. other 1 place (omega arith) e) (λ place. other 5 place (omega arith) e)
 
-      none : dealt f gaps offsets periods .0 ≡ refused 11 0 → (0 < base f gaps) ⊎ (base f gaps ≤ 0) → NoneFits f gaps
+      none : assigned f gaps offsets periods .0 ≡ refused 11 0 → (0 < base f gaps) ⊎ (base f gaps ≤ 0) → NoneFits f gaps
       none e (inl l) = absurd (refused-not _ e (outcome-base gaps offsets periods (good e) l))
       none e (inr m) = base-none f two gaps .0 (omega arith)
 
@@ -167,7 +165,7 @@ module _ (f : ℕ) (two : 2 ≤ f) (gaps : List ℕ) (h : 1 ≤ base f gaps) whe
   offset-at : (i : ℕ) → i < length ps → (getD os i 0 ≡ freeOffset ps os (getD ps i 0) i) × (getD os i 0 < getD ps i 0)
   offset-at i l = let e = settled .each i l in (e, rw e (base-roomy f two gaps h .room os i l))
 
-  -- Rule 5. Each offset dealt is the smallest free one.
+  -- Rule 5. Each offset assigned is the smallest free one.
   pub offset-smallest : (i : ℕ) → i < length ps → SmallestFree ps os i (getD os i 0)
   unfolding freeOffset
   offset-smallest i l = (below, free, smaller)
@@ -228,7 +226,7 @@ module _ (f : ℕ) (two : 2 ≤ f) (gaps : List ℕ) (h : 1 ≤ base f gaps) whe
   pub once-a-period : (i s : ℕ) → i < length ps → Once (getD ps i 0) (getD os i 0) s
   once-a-period i s l = class-once (getD ps i 0) (getD os i 0) s (offset-at i l .1)
 
-  -- The base is also the smallest period dealt.
+  -- The base is also the smallest period assigned.
   pub base-smallest : 1 ≤ length gaps
       → ((i : ℕ) → i < length ps → base f gaps ≤ getD ps i 0) × ((i : ℕ) × (i < length ps) × (getD ps i 0 ≡ base f gaps))
   base-smallest some = (λ i l. rw (period-at f two gaps h i l) (period-least f two (base f gaps) (getD gaps i 0)), go (smallest-met gaps some))

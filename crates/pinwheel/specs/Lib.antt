@@ -1,6 +1,4 @@
-pub mod Outcome
-pub mod Search
 pub mod Rule
-pub mod Deal
 pub mod Words
 pub mod Inner
+pub mod Assign

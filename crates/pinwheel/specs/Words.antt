@@ -5,7 +5,7 @@ use mathlib.Core.Bool.{true, false}
 use mathlib.Core.List.{List}
 use mathlib.Core.Logic.{_⊎_}
 use lib.ListN.{length, getD}
-use Rattle.pinwheel.specs.Search.{smallest}
+use Rattle.lists.specs.Lists.{smallest}
 use Rattle.pinwheel.specs.Rule.{fits}
 
 -- What 1 and 5 ask of the lists.
@@ -40,7 +40,7 @@ SendsIn ps os k t = t % getD ps k 0 ≡ getD os k 0
 abbrev pub Once : ℕ → ℕ → ℕ → Type 0
 Once p o s = (t : ℕ) × (s ≤ t) × (t < s + p) × (t % p ≡ o) × ((u : ℕ) → s ≤ u → u < s + p → u % p ≡ o → u ≡ t)
 
--- Rule 5, the dealing order: child k goes before one of period p and index i, and before child i.
+-- Rule 5, the order of assignment: child k goes before one of period p and index i, and before child i.
 abbrev pub Precedes : List ℕ → ℕ → ℕ → ℕ → Type 0
 Precedes ps p i k = (getD ps k 0 < p) ⊎ ((getD ps k 0 ≡ p) × (k < i))
 

@@ -3,9 +3,9 @@ use crate::periods::period_of;
 ghost use mathlib.Core.Path.{_≡_};
 ghost use Prim.Native.Nat.{_≤_, _/_};
 ghost use lib.ListN.{length};
-ghost use Rattle.pinwheel.specs.Search.{smallest, largest};
+ghost use Rattle.lists.specs.Lists.{smallest, largest};
 ghost use Rattle.pinwheel.specs.Rule.{period, sum, limit, base};
-ghost use Rattle.pinwheel.specs.Inner.{Allowed};
+ghost use Rattle.pinwheel.specs.Inner.{AllowedBase};
 
 // The smallest and the largest gap.
 struct Span {
@@ -53,7 +53,7 @@ fn share(top: u32, gap: u16, base: u16, factor: u16) -> u32
 
 // The limit is the largest gap's period. Every period divides it, so a child's part of the sum is its share of the limit.
 fn figures_of(gaps: &[u16], most: u16, base: u16, factor: u16) -> Figures
-    requires { ⌜ Allowed factor base (now gaps) × (most ≡ largest (now gaps)) × (1 ≤ length (now gaps)) × (length (now gaps) ≤ 63) ⌝ }
+    requires { ⌜ AllowedBase factor base (now gaps) × (most ≡ largest (now gaps)) × (1 ≤ length (now gaps)) × (length (now gaps) ≤ 63) ⌝ }
     ensures { λ r. ⌜ (r .sum ≡ sum factor base (now (gaps .entry))) × (r .limit ≡ limit factor base (now (gaps .entry))) ⌝ }
 {
     let top = period_of(most, base, factor) as u32;

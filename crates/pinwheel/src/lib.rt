@@ -1,11 +1,11 @@
-// The slot rule: from the gaps wanted by the children of one parent it deals out their periods and offsets. It knows no plans, bytes or flows.
+// The slot rule: from the gaps wanted by the children of one parent it assigns their periods and offsets. It knows no plans, bytes or flows.
 mod bases;
 mod offsets;
 mod periods;
 
 ghost use mathlib.Core.Path.{_≡_};
-ghost use Prim.Native.Nat.{_<_};
-ghost use Rattle.pinwheel.specs.Deal.{outcome, dealt, firstBad};
+ghost use Rattle.pinwheel.specs.Assign.{outcome, assigned, firstBad};
+ghost use Rattle.pinwheel.specs.Rule.{sends};
 
 // The base that was found, or the number and the place of a refusal.
 pub enum Answer {
@@ -28,9 +28,9 @@ fn first_bad(gaps: &[u16]) -> usize
 }
 
 // Fills both lists, which are as long as the gaps, and answers the base. Nothing is written before the last check has passed.
-pub fn deal(gaps: &[u16], offsets: &mut [u16], periods: &mut [u16]) -> Answer
+pub fn assign(gaps: &[u16], offsets: &mut [u16], periods: &mut [u16]) -> Answer
     ensures { λ r. ⌜ (outcome r, now (offsets .exit), now (periods .exit))
-        ≡ dealt 2 (now (gaps .entry)) (now (offsets .entry)) (now (periods .entry)) ⌝ }
+        ≡ assigned 2 (now (gaps .entry)) (now (offsets .entry)) (now (periods .entry)) ⌝ }
 {
     let n = gaps.len();
     if offsets.len() != n {
@@ -56,4 +56,14 @@ pub fn deal(gaps: &[u16], offsets: &mut [u16], periods: &mut [u16]) -> Answer
     periods::fill(gaps, base, 2, periods);
     offsets::fill(periods, offsets);
     Answer::Base(base)
+}
+
+// Slot rule 6: a link of this period and offset sends in the slot.
+pub fn sends_in(period: u16, offset: u16, slot: u32) -> bool
+    ensures { λ r. ⌜ r ≡ sends period offset slot ⌝ }
+{
+    if period == 0 {
+        return slot == offset as u32;
+    }
+    slot % period as u32 == offset as u32
 }

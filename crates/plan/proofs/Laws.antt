@@ -13,6 +13,7 @@ pub mod Schedules
 pub mod SiteSchedules
 pub mod Near
 pub mod Former
+pub mod Numbers
 use Prim.Native.Nat.{ℕ, suc, _+_, _<_, _≤_}
 use mathlib.Core.Path.{_≡_, refl, sym, _∙_, ap}
 use mathlib.Core.Bool.{Bool, true, false, false≢true}
@@ -22,31 +23,34 @@ use lib.ListN.{length, take, drop}
 use lib.Seq.{length-take-le}
 use borrow.Author.Tests.{le-ltb}
 use native.Mathlib.Omega.{arith}
-use Rattle.pinwheel.specs.Outcome.{Outcome, accepted, refused, orElse}
-use Rattle.pinwheel.specs.Search.{joined}
-use Rattle.pinwheel.proofs.Laws.Items.{joined-zero, joined-none}
+use Rattle.rulings.specs.Outcome.{Outcome, accepted, refused, orElse}
+use Rattle.lists.specs.Lists.{joined}
+use Rattle.lists.proofs.Laws.Items.{joined-zero, joined-none}
 use Rattle.site.specs.declared.Site.{Site}
 use Rattle.site.specs.Sites.{emptySite, live}
 use Rattle.schedule.specs.Schedule.{scheduled}
-use Rattle.schedule.specs.Judge.{withSite, judgeOf}
-use Rattle.site.specs.Words.{Carried, FullAt, Punctual, LateAt}
+use Rattle.judgement.specs.Judge.{withSite, judgeOf}
+use Rattle.reservations.specs.Words.{Carried, FullAt, Punctual, LateAt}
 use Rattle.schedule.specs.Words.{Wellgapped, Served, CrowdedAt}
-use Rattle.schedule.proofs.Laws.{judge-crowds, judge-fills, judge-delays}
-use Rattle.limits.specs.Check.{passesOf}
-use Rattle.limits.proofs.Laws.Forms.{formed-gapped, linkless-idle}
-use Rattle.limits.proofs.Laws.Passing.{judged-when, passes-parts, judged-passes}
-use Rattle.limits.proofs.Laws.Empty.{empty-passes, linkless-empty}
+use Rattle.judgement.proofs.Laws.{judge-crowds, judge-fills, judge-delays}
+use Rattle.site_check.specs.Check.{passesOf, writtenIf}
+use Rattle.site_check.proofs.Laws.Forms.{formed-gapped, linkless-idle}
+use Rattle.site_check.proofs.Laws.Passing.{judged-when, passes-parts, judged-passes}
+use Rattle.site_check.proofs.Laws.Empty.{empty-passes, linkless-empty}
 use Rattle.format.specs.Commands.{sizeOf}
 use Rattle.format.specs.Words.{Bytes}
 use Rattle.format.proofs.Laws.Reading.{readOn, read-end, ended-more}
-use Rattle.reader.specs.Read.{plans, blank, decode, judgeForm, readOf}
-use Rattle.schedule_file.specs.declared.Schedule.{Schedule}
-use Rattle.schedule_file.specs.Read.{withoutLinks, schedules, scheduleRead}
-use Rattle.schedule_file.specs.Check.{schedulePasses}
-use Rattle.schedule_file.proofs.Laws.{passes-listed}
-use Rattle.writer.specs.Write.{nodeBytes, linkBytes, flowIfLive, commandBytes, planBytes, scheduleOf, scheduleBytes, written, handed, writtenIf, scheduleWritten}
-use Rattle.writer.proofs.Laws.{written-accepted, written-refused}
-use Rattle.writer.proofs.Laws.Write.{plan-size, nodes-few, flows-few, idle-bytes}
+use Rattle.plan_reader.specs.Read.{plans, blank, decode, judgeForm, readOf}
+use Rattle.schedule_check.specs.declared.Schedule.{Schedule}
+use Rattle.schedule_check.specs.Schedules.{withoutLinks}
+use Rattle.schedule_reader.specs.Read.{schedules, scheduleRead}
+use Rattle.schedule_check.specs.Check.{schedulePasses}
+use Rattle.schedule_check.proofs.Laws.{passes-listed}
+use Rattle.plan_writer.specs.Write.{nodeBytes, flowIfLive, commandBytes, planBytes}
+use Rattle.schedule_writer.specs.Write.{linkBytes, scheduleOf, scheduleBytes, scheduleWritten}
+use Rattle.slices.specs.Written.{written, handed}
+use Rattle.slices.proofs.Laws.{written-accepted, written-refused}
+use Rattle.plan_writer.proofs.Laws.Write.{plan-size, nodes-few, flows-few, idle-bytes}
 use Rattle.plan.specs.Words.{InForm, Begun, FormFails, no-end, command, more}
 use Rattle.plan.specs.ScheduleWords.{ScheduleInForm, ScheduleBegun, ScheduleFails}
 use Rattle.plan.specs.Former.{formerForm, formerRead, FormerlyCarried, FormerlyPunctual}

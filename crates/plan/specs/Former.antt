@@ -5,14 +5,15 @@ use mathlib.Core.Bool.{Bool, true, cond, _&&_}
 use mathlib.Core.List.{List}
 use lib.Dec.{ltb, leb}
 use lib.ListN.{getD}
-use Rattle.pinwheel.specs.Outcome.{Outcome, accepted, refused}
-use Rattle.pinwheel.specs.Search.{first}
+use Rattle.rulings.specs.Outcome.{Outcome, accepted, refused}
+use Rattle.lists.specs.Search.{first}
 use Rattle.site.specs.declared.Site.{Site}
-use Rattle.site.specs.Sites.{used, ofLink, live}
-use Rattle.site.specs.Tree.{has}
-use Rattle.site.specs.Reservations.{routeOf, sumTo, along}
+use Rattle.site.specs.Sites.{used, live}
+use Rattle.tree.specs.Tree.{ofLink, has}
+use Rattle.reservations.specs.Reservations.{routeOf, along}
+use Rattle.lists.specs.Lists.{sumTo}
 use Rattle.schedule.specs.Schedule.{firstCrowded, scheduled}
-use Rattle.reader.specs.Read.{decode}
+use Rattle.plan_reader.specs.Read.{decode}
 
 -- 01, Reservations: the width of flow n on the link of node m, rate × wanted gap, and the sum of these widths.
 unfoldable pub formerWidth : Site → ℕ → ℕ → ℕ

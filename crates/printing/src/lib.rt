@@ -1,12 +1,13 @@
 // Text on standard output. No contract can say what is written there: each function answers how many bytes it handed over.
-use writer::Written;
+use slices::Written;
 ghost use mathlib.Core.Path.{_≡_};
 ghost use lib.ListN.{length};
-ghost use Rattle.writer.specs.Write.{writing};
-ghost use Rattle.report.specs.Report.{reportOf, scheduleReportOf};
-ghost use Rattle.report.specs.Listing.{listingOf};
+ghost use Rattle.slices.specs.Written.{writing};
+ghost use Rattle.site_report.specs.Report.{reportOf};
+ghost use Rattle.schedule_report.specs.Report.{scheduleReportOf};
+ghost use Rattle.plan_listing.specs.Listing.{listingOf};
 ghost use Rattle.printing.specs.Printed.{front};
-ghost use Rattle.printing.specs.Inner.{taken};
+ghost use Rattle.printing.specs.Inner.{frontTaken};
 
 // The first bytes of a text, none where it has fewer.
 pub fn print_front(text: &[u8], size: usize) -> usize
@@ -21,7 +22,7 @@ pub fn print_front(text: &[u8], size: usize) -> usize
 
 // What a writer put at the front of a text, nothing where it refused.
 fn print_written(written: Written, text: &[u8]) -> usize
-    ensures { λ r. ⌜ r ≡ taken (writing written) (length (now (text .entry))) ⌝ }
+    ensures { λ r. ⌜ r ≡ frontTaken (writing written) (length (now (text .entry))) ⌝ }
 {
     match written {
         Written::Length(n) => print_front(text, n),
@@ -34,7 +35,7 @@ pub fn print_report(bytes: &[u8]) -> usize
     ensures { λ r. ⌜ r ≡ length (reportOf (now (bytes .entry))) ⌝ }
 {
     let mut text = [0u8; 8192];
-    let written = report::report(bytes, &mut text);
+    let written = site_report::report(bytes, &mut text);
     print_written(written, &text)
 }
 
@@ -43,7 +44,7 @@ pub fn print_schedule(bytes: &[u8]) -> usize
     ensures { λ r. ⌜ r ≡ length (scheduleReportOf (now (bytes .entry))) ⌝ }
 {
     let mut text = [0u8; 8192];
-    let written = report::report_schedule(bytes, &mut text);
+    let written = schedule_report::report_schedule(bytes, &mut text);
     print_written(written, &text)
 }
 
@@ -52,6 +53,6 @@ pub fn print_listing(bytes: &[u8]) -> usize
     ensures { λ r. ⌜ r ≡ length (listingOf (now (bytes .entry))) ⌝ }
 {
     let mut text = [0u8; 8192];
-    let written = report::list_plan(bytes, &mut text);
+    let written = plan_listing::list_plan(bytes, &mut text);
     print_written(written, &text)
 }

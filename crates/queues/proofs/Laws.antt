@@ -9,7 +9,7 @@ use mathlib.Core.Logic.{_⊎_, inl, inr, _↔_}
 use lib.ListN.{length, getD}
 use lib.Seq.{ext-getD}
 use native.Mathlib.Omega.{arith}
-use Rattle.pinwheel.proofs.Laws.Search.{lt-or-le}
+use Rattle.lists.proofs.Laws.Search.{lt-or-le}
 use Rattle.queues.specs.Cells.{Hop, moved, arrived, delivering, passed, step, delivered}
 use Rattle.queues.specs.Words.{hopAt, held, movedTo, Stepped}
 use Rattle.queues.proofs.Laws.Cells.{length-arrived, length-step}

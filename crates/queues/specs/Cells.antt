@@ -3,7 +3,7 @@ use Prim.Native.Nat.{ℕ, _+_, _-_, min}
 use mathlib.Core.Bool.{Bool, cond}
 use mathlib.Core.List.{List, [], _∷_}
 use lib.ListN.{getD, take}
-use Rattle.pinwheel.specs.Search.{total}
+use Rattle.lists.specs.Lists.{total}
 
 -- A link of a route as the flow's packets meet it: in which slots it sends, the flow's width on it, and its served gap, the largest number of slots from
 -- one sending to the next, the second included.

@@ -3,7 +3,7 @@ use Prim.Native.Nat.{ℕ, suc, _+_, _*_, _≤_, _<_, min}
 use mathlib.Core.Path.{_≡_}
 use mathlib.Core.Bool.{true}
 use mathlib.Core.List.{List, [], _∷_}
-use Rattle.pinwheel.specs.Search.{total}
+use Rattle.lists.specs.Lists.{total}
 use Rattle.queues.specs.Cells.{Hop, Entry}
 
 -- The hop sends in every run of as many slots as its gap, and what the rate brings in one gap is within its width.

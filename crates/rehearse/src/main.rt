@@ -3,10 +3,10 @@
 use call_text::Call;
 use call_text::Line;
 use call_text::Question;
-use schedule::Judged;
-use schedule::Verdict;
+use judgement::Judged;
+use rulings::Verdict;
 use site::Site;
-use writer::Written;
+use slices::Written;
 
 // The site as it is now, and how many bytes are kept of the line that is being read: one more than its space has where it is too long.
 struct Rehearsal {
@@ -26,7 +26,7 @@ fn print_error() {
 
 fn print_verdict(verdict: Verdict) {
     let mut line = [0u8; 64];
-    let n = report::put_verdict(&mut line, 0, verdict);
+    let n = report_lines::put_verdict(&mut line, 0, verdict);
     print_line(&line, n);
 }
 
@@ -60,7 +60,7 @@ fn print_plan(bytes: &[u8], typed: bool) {
 // Shows the site by its plan, which takes at most 763 bytes.
 fn show(site: Site, typed: bool) {
     let mut bytes = [0u8; 763];
-    let written = writer::write_plan(site, &mut bytes);
+    let written = plan_writer::write_plan(site, &mut bytes);
     match written {
         Written::Length(n) => {
             if n <= 763 {
@@ -75,7 +75,7 @@ fn show(site: Site, typed: bool) {
 fn put_answer(out: &mut [u8], question: Question, site: Site, counters: &[u32]) -> usize {
     match question {
         Question::Sender(parent, slot) => {
-            let lookup = simulation::sender(site, parent, slot);
+            let lookup = sender::sender(site, parent, slot);
             call_answers::put_lookup(out, 0, lookup)
         }
         Question::Cells(number) => call_answers::put_cells(out, 0, counters, number),
@@ -180,7 +180,7 @@ fn rehearse_site(site: Site) {
 }
 
 fn rehearse_plan(bytes: &[u8]) {
-    let read = reader::read_plan(bytes);
+    let read = plan_reader::read_plan(bytes);
     let verdict = read.verdict;
     match verdict {
         Verdict::Accepted => {
@@ -193,7 +193,7 @@ fn rehearse_plan(bytes: &[u8]) {
 
 fn print_counts(site: Site) {
     let mut line = [0u8; 64];
-    let n = report::put_counts(&mut line, 0, site);
+    let n = site_report::put_counts(&mut line, 0, site);
     printing::print_front(&line, n);
 }
 

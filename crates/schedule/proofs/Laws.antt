@@ -2,40 +2,30 @@
 -- its own schedule. The modules named here hold the lemmas.
 pub mod Schedule
 pub mod Wanted
-pub mod Rulings
-pub mod Judge
 pub mod Slots
+pub mod Crowded
 use Prim.Native.Nat.{ℕ, zero, suc, _+_, _≤_, _<_}
-use mathlib.Core.Path.{_≡_, refl, sym, _∙_}
+use mathlib.Core.Path.{_≡_, refl}
 use mathlib.Core.Bool.{true}
-use mathlib.Core.Logic.{_⊎_, inl, inr, _↔_}
+use mathlib.Core.Logic.{_⊎_, inl, inr}
 use mathlib.Core.List.{List}
 use lib.ListN.{length, getD}
-use native.Mathlib.Numerals.{add-one}
 use native.Mathlib.Omega.{arith}
-use Rattle.pinwheel.specs.Outcome.{refused, accepted}
 use Rattle.pinwheel.specs.Rule.{base}
 use Rattle.pinwheel.specs.Words.{Once}
 use Rattle.pinwheel.proofs.Laws.{period-largest, never-together, once-a-period}
-use Rattle.pinwheel.proofs.Laws.Outcomes.{refused-not}
-use Rattle.pinwheel.proofs.Laws.Search.{lt-or-le}
+use Rattle.lists.proofs.Laws.Search.{lt-or-le}
 use Rattle.pinwheel.proofs.Laws.Bases.{smallest-within, base-fits}
 use Rattle.pinwheel.proofs.Laws.Room.{period-at, base-harmonic}
 use Rattle.site.specs.declared.Site.{Site}
-use Rattle.site.specs.Sites.{ofLink, withSchedule}
+use Rattle.tree.specs.Tree.{ofLink}
 use Rattle.site.specs.Sites.{used}
-use Rattle.schedule.specs.Schedule.{gapsFrom, gapsUnder, rank, firstCrowded}
-use Rattle.schedule.specs.Schedule.{scheduled, linkSends}
-use Rattle.site.specs.Reservations.{routeOf, firstOver, along, firstLate, delayBound}
-use Rattle.schedule.specs.Judge.{judgeOf}
-use Rattle.site.specs.Words.{Carried, FullAt, Punctual, LateAt}
-use Rattle.schedule.specs.Words.{Children, Wellgapped, Served, CrowdedAt, Timed, SendsAt}
-use Rattle.site.proofs.Laws.Tree.{route-within}
+use Rattle.schedule.specs.Schedule.{gapsFrom, gapsUnder, rank, linkSends}
+use Rattle.reservations.specs.Reservations.{routeOf, along, delayBound}
+use Rattle.schedule.specs.Words.{Children, Timed, SendsAt}
+use Rattle.tree.proofs.Laws.Tree.{route-within}
 use Rattle.schedule.proofs.Laws.Schedule.{rank-apart}
 use Rattle.schedule.proofs.Laws.Wanted.{Among, among}
-use Rattle.site.proofs.Laws.{carried-when, full-when, punctual-when, late-when}
-use Rattle.schedule.proofs.Laws.Judge.{served-when, crowded-when}
-use Rattle.schedule.proofs.Laws.Judge.{Way, crowds, fills, delays, passes, judge-way}
 use Rattle.schedule.proofs.Laws.Slots.{placed, slot, sends-in, along-rises}
 
 -- The gaps that the slot rule is asked for under a parent are just those that its children want, by rising number and each child once.
@@ -57,100 +47,6 @@ children-gaps s few p =
         → (n : ℕ) → 1 ≤ n → n ≤ s .links → ofLink (s .parents) n ≡ p → (k : ℕ) × (k < length nodes) × (getD nodes k 0 ≡ n)
     all nodes w zero o l q = absurd (omega arith)
     all nodes w (suc j) o l q = w .all j (omega arith) (omega arith) q
-
--- What is accepted is the site with its own schedule, and what is refused has one of three numbers.
-pub judge-gives : (s t : Site) → judgeOf s ≡ accepted t → t ≡ scheduled s
-judge-gives s t e = go (judge-way s)
-  where
-    go : Way s → t ≡ scheduled s
-    go (crowds a q) = absurd (refused-not _ q e)
-    go (fills a b q) = absurd (refused-not _ q e)
-    go (delays a b c q) = absurd (refused-not _ q e)
-    go (passes a b c q) = cc
-
-pub judge-numbers : (s : Site) (number place : ℕ) → judgeOf s ≡ refused number place → 11 ≤ number
-judge-numbers s number place e = go (judge-way s)
-  where
-    go : Way s → 11 ≤ number
-    go (crowds a q) = let n : number ≡ 11 = cc in omega arith
-    go (fills a b q) = let n : number ≡ 12 = cc in omega arith
-    go (delays a b c q) = let n : number ≡ 13 = cc in omega arith
-    go (passes a b c q) = absurd (refused-not _ e q)
-
-module _ (s : Site) (few : s .links ≤ 63) (g : Wellgapped s) where
-  -- 11, 12 and 13 let a site pass just when it is as the words say.
-  pub judge-accepts : (judgeOf s ≡ accepted (scheduled s)) ↔ (Served s × Carried (scheduled s) × Punctual (scheduled s))
-  unfolding scheduled withSchedule
-  judge-accepts = (λ e. there e (judge-way s), λ w. back w (judge-way s))
-    where
-      there : judgeOf s ≡ accepted (scheduled s) → Way s → Served s × Carried (scheduled s) × Punctual (scheduled s)
-      there e (crowds a q) = absurd (refused-not _ q e)
-      there e (fills a b q) = absurd (refused-not _ q e)
-      there e (delays a b c q) = absurd (refused-not _ q e)
-      there e (passes a b c q) = (served-when s few g .0 a, carried-when (scheduled s) few .0 b, punctual-when (scheduled s) .0 c)
-
-      back : Served s × Carried (scheduled s) × Punctual (scheduled s) → Way s → judgeOf s ≡ accepted (scheduled s)
-      back w (crowds a q) = absurd (omega (arith, served-when s few g .1 (w .0)))
-      back w (fills a b q) = absurd (omega (arith, carried-when (scheduled s) few .1 (w .1)))
-      back w (delays a b c q) = absurd (omega (arith, punctual-when (scheduled s) .1 (w .2)))
-      back w (passes a b c q) = q
-
-  -- 11 at p.
-  pub judge-crowds : (p : ℕ) → (judgeOf s ≡ refused 11 p) ↔ CrowdedAt s p
-  judge-crowds p = (λ e. there e (judge-way s), λ w. back (crowded-when s few g p .1 w) (judge-way s))
-    where
-      there : judgeOf s ≡ refused 11 p → Way s → CrowdedAt s p
-      there e (crowds a q) = let n : firstCrowded s ≡ p = cc in crowded-when s few g p .0 (n, omega arith)
-      there e (fills a b q) = let n : _≡_ {A = ℕ} 11 12 = cc in absurd (omega arith)
-      there e (delays a b c q) = let n : _≡_ {A = ℕ} 11 13 = cc in absurd (omega arith)
-      there e (passes a b c q) = absurd (refused-not _ e q)
-
-      back : (firstCrowded s ≡ p) × (p < used (s .links) + 1) → Way s → judgeOf s ≡ refused 11 p
-      back (e, l) (crowds a q) = rw e at q
-      back (e, l) (fills a b q) = absurd (omega arith)
-      back (e, l) (delays a b c q) = absurd (omega arith)
-      back (e, l) (passes a b c q) = absurd (omega arith)
-
-  -- 12 at link m.
-  pub judge-fills : (m : ℕ) → (judgeOf s ≡ refused 12 m) ↔ (Served s × FullAt (scheduled s) m)
-  unfolding scheduled withSchedule
-  judge-fills m = (λ e. there e (judge-way s), λ w. back m w (judge-way s))
-    where
-      there : judgeOf s ≡ refused 12 m → Way s → Served s × FullAt (scheduled s) m
-      there e (crowds a q) = let n : _≡_ {A = ℕ} 11 12 = cc in absurd (omega arith)
-      there e (fills a b q) =
-          let n : suc (firstOver (scheduled s)) ≡ m = sym (add-one _) ∙ cc in
-          (served-when s few g .0 a, rw (← n) (full-when (scheduled s) few (firstOver (scheduled s)) .0 (refl, b)))
-      there e (delays a b c q) = let n : _≡_ {A = ℕ} 12 13 = cc in absurd (omega arith)
-      there e (passes a b c q) = absurd (refused-not _ e q)
-
-      back : (m : ℕ) → Served s × FullAt (scheduled s) m → Way s → judgeOf s ≡ refused 12 m
-      back m w (crowds a q) = absurd (omega (arith, served-when s few g .1 (w .0)))
-      back zero w (fills a b q) = absurd (omega (arith, w .1 .link .0))
-      back (suc i) w (fills a b q) = rw (full-when (scheduled s) few i .1 (w .1) .0, add-one i) at q
-      back zero w (delays a b c q) = absurd (omega (arith, w .1 .link .0))
-      back (suc i) w (delays a b c q) = let f = full-when (scheduled s) few i .1 (w .1) in absurd (omega (arith, f .0, f .1))
-      back zero w (passes a b c q) = absurd (omega (arith, w .1 .link .0))
-      back (suc i) w (passes a b c q) = let f = full-when (scheduled s) few i .1 (w .1) in absurd (omega (arith, f .0, f .1))
-
-  -- 13 at flow n.
-  pub judge-delays : (n : ℕ) → (judgeOf s ≡ refused 13 n) ↔ (Served s × Carried (scheduled s) × LateAt (scheduled s) n)
-  unfolding scheduled withSchedule
-  judge-delays n = (λ e. there e (judge-way s), λ w. back w (late-when (scheduled s) n .1 (w .2)) (judge-way s))
-    where
-      there : judgeOf s ≡ refused 13 n → Way s → Served s × Carried (scheduled s) × LateAt (scheduled s) n
-      there e (crowds a q) = let n : _≡_ {A = ℕ} 11 13 = cc in absurd (omega arith)
-      there e (fills a b q) = let n : _≡_ {A = ℕ} 12 13 = cc in absurd (omega arith)
-      there e (delays a b c q) =
-          let is : firstLate (scheduled s) ≡ n = cc in
-          (served-when s few g .0 a, carried-when (scheduled s) few .0 b, rw (← is) (late-when (scheduled s) (firstLate (scheduled s)) .0 (refl, c)))
-      there e (passes a b c q) = absurd (refused-not _ e q)
-
-      back : Served s × Carried (scheduled s) × LateAt (scheduled s) n → (firstLate (scheduled s) ≡ n) × (n < 64) → Way s → judgeOf s ≡ refused 13 n
-      back w f (crowds a q) = absurd (omega (arith, served-when s few g .1 (w .0)))
-      back w f (fills a b q) = absurd (omega (arith, carried-when (scheduled s) few .1 (w .1)))
-      back w f (delays a b c q) = rw (f .0) at q
-      back w f (passes a b c q) = absurd (omega (arith, f .0, f .1))
 
 -- A site with its own schedule.
 module _ (s : Site) (h : Timed s) where

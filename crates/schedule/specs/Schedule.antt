@@ -4,12 +4,14 @@ use mathlib.Core.Bool.{Bool, true, false, not, cond, _&&_}
 use mathlib.Core.List.{List, [], _∷_}
 use lib.Dec.{eqb, ltb, leb}
 use lib.ListN.{length, getD, replicate}
-use Rattle.pinwheel.specs.Search.{first}
+use Rattle.lists.specs.Search.{first}
 use Rattle.pinwheel.specs.Rule.{sends}
-use Rattle.pinwheel.specs.Outcome.{Outcome, accepted, refused}
-use Rattle.pinwheel.specs.Deal.{dealt}
+use Rattle.rulings.specs.Outcome.{Outcome, accepted, refused}
+use Rattle.pinwheel.specs.Assign.{assigned}
 use Rattle.site.specs.declared.Site.{Site}
-use Rattle.site.specs.Sites.{used, ofLink, withSchedule}
+use Rattle.site.specs.Sites.{used, withSchedule}
+use Rattle.tree.specs.Tree.{ofLink}
+use Rattle.lists.specs.Lists.{listed}
 
 -- A list with x in front, if the test holds.
 abbrev pub kept : Bool → ℕ → List ℕ → List ℕ
@@ -29,9 +31,9 @@ gapsUnder s p = gapsFrom (s .parents) (s .gaps) p (used (s .links)) 0
 unfoldable pub rank : Site → ℕ → ℕ → ℕ
 rank s p i = length (gapsFrom (s .parents) (s .gaps) p i 0)
 
--- What the slot rule deals to p's children: outcome, offsets, periods.
-unfoldable pub dealtUnder : Site → ℕ → Outcome ℕ × List ℕ × List ℕ
-dealtUnder s p = dealt 2 (gapsUnder s p) (replicate (length (gapsUnder s p)) 0) (replicate (length (gapsUnder s p)) 0)
+-- What the slot rule assigns to p's children: outcome, offsets, periods.
+unfoldable pub assignedUnder : Site → ℕ → Outcome ℕ × List ℕ × List ℕ
+assignedUnder s p = assigned 2 (gapsUnder s p) (replicate (length (gapsUnder s p)) 0) (replicate (length (gapsUnder s p)) 0)
 
 -- The base that the slot rule finds for p's children, 0 where it refuses them.
 unfoldable pub baseOf : Outcome ℕ → ℕ
@@ -39,7 +41,7 @@ baseOf (accepted b) = b
 baseOf (refused number place) = 0
 
 unfoldable pub baseUnder : Site → ℕ → ℕ
-baseUnder s p = baseOf (dealtUnder s p .0)
+baseUnder s p = baseOf (assignedUnder s p .0)
 
 -- 01, 11: p has children, and no base fits them.
 unfoldable pub crowded : Site → ℕ → Bool
@@ -49,27 +51,22 @@ crowded s p = not (eqb (length (gapsUnder s p)) 0) && eqb (baseUnder s p) 0
 unfoldable pub firstCrowded : Site → ℕ
 firstCrowded s = first (crowded s) (used (s .links) + 1) 0
 
--- The link at index i gets from a list dealt under its parent the entry of its rank. An entry not in use is 0, as is that of a
+-- The link at index i gets from a list assigned under its parent the entry of its rank. An entry not in use is 0, as is that of a
 -- link whose parent is no node of the site.
-unfoldable pub entryDealt : Site → (ℕ → List ℕ) → ℕ → ℕ
-entryDealt s lists i =
+unfoldable pub entryAssigned : Site → (ℕ → List ℕ) → ℕ → ℕ
+entryAssigned s lists i =
     cond (ltb i (used (s .links)) && leb (getD (s .parents) i 0) (used (s .links)))
     (getD (lists (getD (s .parents) i 0)) (rank s (getD (s .parents) i 0) i) 0) 0
 
--- The values of f at the r numbers from i on.
-unfoldable pub listed : (ℕ → ℕ) → ℕ → ℕ → List ℕ
-listed f zero i = []
-listed f (suc r) i = f i ∷ listed f r (i + 1)
+unfoldable pub offsetsAssigned : Site → List ℕ
+offsetsAssigned s = listed (entryAssigned s (λ p. assignedUnder s p .1)) 63 0
 
-unfoldable pub offsetsDealt : Site → List ℕ
-offsetsDealt s = listed (entryDealt s (λ p. dealtUnder s p .1)) 63 0
-
-unfoldable pub periodsDealt : Site → List ℕ
-periodsDealt s = listed (entryDealt s (λ p. dealtUnder s p .2)) 63 0
+unfoldable pub periodsAssigned : Site → List ℕ
+periodsAssigned s = listed (entryAssigned s (λ p. assignedUnder s p .2)) 63 0
 
 -- The site with the schedule that the slot rule gives it.
 unfoldable pub scheduled : Site → Site
-scheduled s = withSchedule s (offsetsDealt s) (periodsDealt s)
+scheduled s = withSchedule s (offsetsAssigned s) (periodsAssigned s)
 
 -- 01, slot rule 6: node n has a link, and it sends in slot t.
 unfoldable pub linkSends : Site → ℕ → ℕ → Bool

@@ -3,45 +3,14 @@ use Prim.Native.Nat.{ℕ, _+_, _≤_, _<_}
 use mathlib.Core.Path.{_≡_}
 use mathlib.Core.Bool.{true, false}
 use mathlib.Core.List.{List}
-use mathlib.Core.Logic.{_⊎_}
 use lib.ListN.{length, getD}
-use Rattle.pinwheel.specs.Outcome.{Checks, none, check}
-use Rattle.pinwheel.specs.Search.{total}
+use Rattle.rulings.specs.Outcome.{Checks, none, check}
+use Rattle.lists.specs.Lists.{total}
 use Rattle.site.specs.declared.Site.{Site}
-use Rattle.site.specs.Sites.{ofLink, live}
-use Rattle.schedule.specs.Words.{SendsAt}
-use Rattle.limits.specs.Words.{Sound, siteChecks, callChecks}
+use Rattle.site.specs.Sites.{live}
+use Rattle.site_check.specs.Words.{Sound, callChecks}
 use Rattle.counters.specs.Blocks.{cellsOf}
-
--- Node n is a child of p and sends in slot t.
-abbrev pub ChildSends : Site → ℕ → ℕ → ℕ → Type 0
-ChildSends s p t n = (ofLink (s .parents) n ≡ p) × SendsAt s n t
-
--- No child of p sends in slot t.
-abbrev pub NoneSends : Site → ℕ → ℕ → Type 0
-NoneSends s p t = (n : ℕ) → ChildSends s p t n → ⊥
-
--- 01: c is the child that sends, or 0 where none does.
-abbrev pub SendingChild : Site → ℕ → ℕ → ℕ → Type 0
-SendingChild s p t c = ChildSends s p t c ⊎ ((c ≡ 0) × NoneSends s p t)
-
--- 01, the order of a lookup's checks, each with its place: 14, 6.
-abbrev pub senderChecks : Site → ℕ → Checks
-senderChecks s p = siteChecks s (check 6 (λ q. (s .links < p) × (q ≡ 0)) none)
-
--- 01, 19: flow n is live, and its nine cells and its arrival sum to more than 4,294,967,295.
-abbrev pub Overflows : Site → List ℕ → List ℕ → ℕ → Type 0
-Overflows s counters arrivals n = (live s n ≡ true) × (4294967295 < total (cellsOf n counters) + getD arrivals n 0)
-
--- 01, 20: number n is not live, and there are arrivals for it.
-abbrev pub Unexpected : Site → List ℕ → ℕ → Type 0
-Unexpected s arrivals n = (live s n ≡ false) × (0 < getD arrivals n 0)
-
--- Of the 64 flow numbers, n is the lowest with P.
-pub record Lowest (P : ℕ → Type 0) (n : ℕ) : Type 0 where
-  pub few : n < 64
-  pub here : P n
-  pub lower : (k : ℕ) → k < n → P k → ⊥
+use Rattle.slot_checks.specs.Words.{Overflows, Unexpected, Lowest}
 
 -- 01: a slot is accepted where there are 576 counters and 64 arrivals, the site is one that check 14 lets pass, every live flow's nine cells and its arrival are
 -- together at most 4,294,967,295, and no other number has arrivals.

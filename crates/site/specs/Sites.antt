@@ -1,10 +1,11 @@
--- Sites as values. A link is named by its node's number n and has the index n - 1 in every list of links; a flow's index is its number.
-use Prim.Native.Nat.{ℕ, zero, suc, min}
-use mathlib.Core.Bool.{Bool}
+-- 01, Marked plans: what is printed of plan bytes and of schedule bytes, as lines of words and decimal numbers. A line is a list of pieces.
+use Prim.Native.Nat.{ℕ, min}
+use mathlib.Core.Bool.{cond, Bool}
 use mathlib.Core.List.{List}
-use lib.Dec.{eqb}
 use lib.ListN.{getD, set, replicate}
 use Rattle.site.specs.declared.Site.{Site}
+use Rattle.lists.specs.Lists.{sumTo}
+use lib.Dec.{eqb}
 use Rattle.site.specs.declared.Flow.{Flow}
 
 -- 01: the empty site, which a refused reading comes with and, by 02, U3, END alone is read to. No links, no flows, every entry 0.
@@ -26,14 +27,13 @@ emptySite = record {
 unfoldable pub used : ℕ → ℕ
 used links = min links 63
 
--- What a list of links holds for the link of node n; the root has no link.
-unfoldable pub ofLink : List ℕ → ℕ → ℕ
-ofLink xs zero = 0
-ofLink xs (suc i) = getD xs i 0
-
 -- 01: a flow is live from its FLOW, or its admission, to its release; its state is then 1.
 unfoldable pub live : Site → ℕ → Bool
 live s n = eqb (getD (s .states) n 0) 1
+
+-- How many flows are live.
+unfoldable pub flowCount : Site → ℕ
+flowCount s = sumTo (λ n. cond (live s n) 1 0) 64
 
 -- The site with other lists of flows.
 abbrev pub withFlows : Site → List ℕ → List ℕ → List ℕ → List ℕ → Site

@@ -1,18 +1,6 @@
-// A site: its tree of links, and what its flows reserve.
-mod reservations;
-mod tree;
-
-pub use reservations::Faults;
-pub use reservations::delay_bound;
-pub use reservations::first_faults;
-pub use reservations::first_unfit;
-pub use reservations::gaps_along;
-pub use reservations::loads;
-pub use tree::depth;
-pub use tree::parent_of;
-pub use tree::value_of;
+// A site by value, with its flows.
 ghost use mathlib.Core.Path.{_≡_};
-ghost use Rattle.site.specs.Sites.{emptySite, used, live, withFlow, withoutFlow};
+ghost use Rattle.site.specs.Sites.{flowCount, emptySite, used, live, withFlow, withoutFlow};
 
 // One value for one plan: node n's entries are at index n - 1, a flow's at its number, and whatever is not in use is 0.
 // A flow's state is 0 for a number not in use and 1 for a live flow.
@@ -106,4 +94,19 @@ pub fn link_count(links: u8) -> usize
         return 63;
     }
     links as usize
+}
+
+// How many flows are live.
+pub fn flow_count(site: Site) -> u64
+    ensures { λ r. ⌜ r ≡ flowCount site ⌝ }
+{
+    let mut count = 0;
+    let mut n = 0;
+    while n < 64 {
+        if site.states[n] == 1 {
+            count += 1;
+        }
+        n += 1;
+    }
+    count
 }

@@ -4,30 +4,30 @@
 use site::Site;
 
 fn put_check(out: &mut [u8], site: Site) -> usize {
-    if limits::passes(site) {
-        return text::put(out, 0, b"passes");
+    if site_check::passes(site) {
+        return slices::put(out, 0, b"passes");
     }
-    text::put(out, 0, b"does not pass")
+    slices::put(out, 0, b"does not pass")
 }
 
 // What the check says, and what the writers, one after the other, answer and leave in the slice.
 fn put_case(out: &mut [u8], site: Site, space: &mut [u8]) -> usize {
     let judged = put_check(out, site);
-    let plan_written = writer::write_plan(site, space);
-    let planned = test_text::put_left(out, judged, b", plan", plan_written, space);
-    let schedule_written = writer::write_schedule(site, space);
-    test_text::put_left(out, planned, b", schedule", schedule_written, space)
+    let plan_written = plan_writer::write_plan(site, space);
+    let planned = testlib_text::put_left(out, judged, b", plan", plan_written, space);
+    let schedule_written = schedule_writer::write_schedule(site, space);
+    testlib_text::put_left(out, planned, b", schedule", schedule_written, space)
 }
 
 // A length for which there is no slice puts nothing: the number of bytes is then one that no line has, and nothing is printed.
 fn put_line(out: &mut [u8], line: &[u8], site: Site) -> usize {
-    if test_text::begins(line, b'#') {
-        return text::put(out, 0, line);
+    if testlib_text::begins(line, b'#') {
+        return slices::put(out, 0, line);
     }
-    let room = test_text::next_number(line, 0);
+    let room = testlib_text::next_number(line, 0);
     let n = room.value;
-    let mut space = test_text::numbered();
-    let next = test_sites::altered(site, line, room.next);
+    let mut space = testlib_text::numbered();
+    let next = testlib_sites::altered(site, line, room.next);
     if 64 < n {
         return usize::MAX;
     }
@@ -36,12 +36,12 @@ fn put_line(out: &mut [u8], line: &[u8], site: Site) -> usize {
 
 // Answers the site to be altered from here on. 512 bytes have room for every line: a byte that is left takes three of them, twice.
 fn show_line(line: &[u8], site: Site) -> Site {
-    if test_text::begins(line, b'P') {
-        return test_sites::read_site(line);
+    if testlib_text::begins(line, b'P') {
+        return testlib_sites::read_site(line);
     }
     let mut out = [0u8; 512];
     let told = put_line(&mut out, line, site);
-    let size = text::put(&mut out, told, b"\n");
+    let size = slices::put(&mut out, told, b"\n");
     printing::print_front(&out, size);
     site
 }
@@ -50,7 +50,7 @@ fn show_lines(text: &[u8]) {
     let mut site = site::empty();
     let mut at = 0;
     while at < text.len() {
-        let end = test_text::line_end(text, at);
+        let end = testlib_text::line_end(text, at);
         let next = show_line(&text[at..end], site);
         site = next;
         at = end + 1;

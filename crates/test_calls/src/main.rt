@@ -2,8 +2,8 @@
 // A line that begins with `P` gives the plan of a new site, one with `X` changes of its entries, one with `C` the counters' value, and one with `K` the
 // value of a single counter. `A`, `R`, `L`, `T` and `S` call an operation with the operands that follow. A line that begins with `#` is printed as it
 // stands.
-use schedule::Judged;
-use schedule::Verdict;
+use judgement::Judged;
+use rulings::Verdict;
 use site::Flow;
 use site::Site;
 
@@ -24,7 +24,7 @@ fn operands(line: &[u8]) -> [usize; 5] {
     let mut at = 0;
     let mut i = 0;
     while i < 5 {
-        let number = test_text::next_number(line, at);
+        let number = testlib_text::next_number(line, at);
         numbers[i] = number.value;
         at = number.next;
         i += 1;
@@ -45,7 +45,7 @@ fn different() -> [u32; 577] {
 
 // The counters that the line gives: all of its number, or all different where it has none.
 fn given(line: &[u8]) -> [u32; 577] {
-    let number = test_text::next_number(line, 0);
+    let number = testlib_text::next_number(line, 0);
     if number.found {
         return [low32(number.value); 577];
     }
@@ -53,7 +53,7 @@ fn given(line: &[u8]) -> [u32; 577] {
 }
 
 fn print_line(out: &mut [u8], size: usize) {
-    let ended = text::put(out, size, b"\n");
+    let ended = slices::put(out, size, b"\n");
     printing::print_front(out, ended);
 }
 
@@ -62,24 +62,24 @@ fn called(out: &mut [u8], live: Live, judged: Judged, counters: [u32; 577]) -> L
     let verdict = judged.verdict;
     let site = judged.site;
     let counters_before = live.counters;
-    let told = report::put_verdict(out, 0, verdict);
-    let changed = test_changes::put_site(out, told, live.site, site);
-    let size = test_changes::put_counters(out, changed, counters_before, counters);
+    let told = report_lines::put_verdict(out, 0, verdict);
+    let changed = testlib_changes::put_site(out, told, live.site, site);
+    let size = testlib_changes::put_counters(out, changed, counters_before, counters);
     print_line(out, size);
     Live { site, counters }
 }
 
 // The release that a line with `R` asks for, or else the admission, on the counters that are lent.
 fn judged(line: &[u8], site: Site, counters: &mut [u32], numbers: [usize; 5]) -> Judged {
-    let number = test_text::low8(numbers[1]);
-    if test_text::begins(line, b'R') {
+    let number = testlib_text::low8(numbers[1]);
+    if testlib_text::begins(line, b'R') {
         return admission::release(site, counters, number);
     }
     let flow = Flow {
         number,
-        entry: test_text::low8(numbers[2]),
-        rate: test_text::low8(numbers[3]),
-        deadline: test_text::low16(numbers[4]),
+        entry: testlib_text::low8(numbers[2]),
+        rate: testlib_text::low8(numbers[3]),
+        deadline: testlib_text::low16(numbers[4]),
     };
     admission::admit(site, counters, flow)
 }
@@ -98,9 +98,9 @@ fn call(out: &mut [u8], line: &[u8], live: Live) -> Live {
 
 fn look_up(out: &mut [u8], line: &[u8], site: Site) {
     let numbers = operands(line);
-    let parent = test_text::low8(numbers[0]);
+    let parent = testlib_text::low8(numbers[0]);
     let slot = low32(numbers[1]);
-    let lookup = simulation::sender(site, parent, slot);
+    let lookup = sender::sender(site, parent, slot);
     let size = call_answers::put_lookup(out, 0, lookup);
     print_line(out, size);
 }
@@ -129,8 +129,8 @@ fn with_counter(line: &[u8], live: Live) -> Live {
 // Prints what a start or a slot answered and changed; answers the site with the counters that it left.
 fn run(out: &mut [u8], live: Live, verdict: Verdict, counters: [u32; 577]) -> Live {
     let counters_before = live.counters;
-    let told = report::put_verdict(out, 0, verdict);
-    let size = test_changes::put_counters(out, told, counters_before, counters);
+    let told = report_lines::put_verdict(out, 0, verdict);
+    let size = testlib_changes::put_counters(out, told, counters_before, counters);
     print_line(out, size);
     with_counters(live, counters)
 }
@@ -161,10 +161,10 @@ fn arrivals_of(line: &[u8], from: usize) -> [u16; 65] {
     let mut arrivals = [0u16; 65];
     let mut at = from;
     while at < line.len() {
-        let flow = test_text::next_number(line, at);
-        let count = test_text::next_number(line, flow.next);
+        let flow = testlib_text::next_number(line, at);
+        let count = testlib_text::next_number(line, flow.next);
         if count.found {
-            let next = placed(arrivals, flow.value, test_text::low16(count.value));
+            let next = placed(arrivals, flow.value, testlib_text::low16(count.value));
             arrivals = next;
         }
         at = count.next;
@@ -174,9 +174,9 @@ fn arrivals_of(line: &[u8], from: usize) -> [u16; 65] {
 
 // Makes the slot of a line with `S`, whose first two operands say how many counters and arrivals are lent.
 fn slot(out: &mut [u8], line: &[u8], live: Live) -> Live {
-    let counters_lent = test_text::next_number(line, 0);
-    let arrivals_lent = test_text::next_number(line, counters_lent.next);
-    let number = test_text::next_number(line, arrivals_lent.next);
+    let counters_lent = testlib_text::next_number(line, 0);
+    let arrivals_lent = testlib_text::next_number(line, counters_lent.next);
+    let number = testlib_text::next_number(line, arrivals_lent.next);
     let lent = counters_lent.value;
     let given = arrivals_lent.value;
     if 577 < lent {
@@ -207,12 +207,12 @@ fn show_line(line: &[u8], live: Live) -> Live {
     let mark = line[0];
     match mark {
         b'#' => {
-            let size = text::put(&mut out, 0, line);
+            let size = slices::put(&mut out, 0, line);
             print_line(&mut out, size);
             live
         }
-        b'P' => with_site(live, test_sites::read_site(line)),
-        b'X' => with_site(live, test_sites::altered(live.site, line, 0)),
+        b'P' => with_site(live, testlib_sites::read_site(line)),
+        b'X' => with_site(live, testlib_sites::altered(live.site, line, 0)),
         b'C' => with_counters(live, given(line)),
         b'K' => with_counter(line, live),
         b'A' | b'R' => call(&mut out, line, live),
@@ -233,7 +233,7 @@ fn show_lines(text: &[u8]) {
     };
     let mut at = 0;
     while at < text.len() {
-        let end = test_text::line_end(text, at);
+        let end = testlib_text::line_end(text, at);
         let next = show_line(&text[at..end], live);
         live = next;
         at = end + 1;

@@ -1,10 +1,10 @@
 // Schedules read back, and handed to the writer with entries changed.
 // A line that begins with `W` gives the length of a slice and then changes of the schedule that the last file read to, each a field, an index and a value: field 0
 // is the number of links, 1 an offset, 2 a period. A line that begins with `#` is printed as it stands. Any other line is a schedule file in hexadecimal.
-use schedule::Verdict;
-use schedule_file::Reading;
-use schedule_file::Schedule;
-use test_text::Change;
+use rulings::Verdict;
+use schedule_check::Schedule;
+use schedule_reader::Reading;
+use testlib_text::Change;
 
 // The schedule with one entry changed, or as it is where the change is not complete, there is no such entry or the value is too large. The number of links has
 // no index.
@@ -18,14 +18,14 @@ fn changed(schedule: Schedule, change: Change) -> Schedule {
     }
     if field == 0 {
         if value <= 255 {
-            next.links = test_text::low8(value);
+            next.links = testlib_text::low8(value);
         }
         return next;
     }
     if 65535 < value {
         return next;
     }
-    let word = test_text::low16(value);
+    let word = testlib_text::low16(value);
     if index < 63 {
         match field {
             1 => next.offsets[index] = word,
@@ -41,7 +41,7 @@ fn altered(schedule: Schedule, line: &[u8], start: usize) -> Schedule {
     let mut next = schedule;
     let mut at = start;
     while at < line.len() {
-        let change = test_text::next_change(line, at);
+        let change = testlib_text::next_change(line, at);
         let more = changed(next, change);
         next = more;
         at = change.next;
@@ -50,15 +50,15 @@ fn altered(schedule: Schedule, line: &[u8], start: usize) -> Schedule {
 }
 
 fn put_left(out: &mut [u8], schedule: Schedule, space: &mut [u8]) -> usize {
-    let written = writer::write_schedule_of(schedule, space);
-    test_text::put_left(out, 0, b"schedule", written, space)
+    let written = schedule_writer::write_schedule_of(schedule, space);
+    testlib_text::put_left(out, 0, b"schedule", written, space)
 }
 
 // A length for which there is no slice puts nothing: the number of bytes is then one that no line has, and nothing is printed.
 fn put_writing(out: &mut [u8], line: &[u8], schedule: Schedule) -> usize {
-    let room = test_text::next_number(line, 0);
+    let room = testlib_text::next_number(line, 0);
     let n = room.value;
-    let mut space = test_text::numbered();
+    let mut space = testlib_text::numbered();
     let next = altered(schedule, line, room.next);
     if 64 < n {
         return usize::MAX;
@@ -74,10 +74,10 @@ fn put_again(
     schedule: Schedule,
     space: &mut [u8],
 ) -> usize {
-    let written = writer::write_schedule_of(schedule, space);
-    let told = test_text::put_written(out, at, b" written", written);
+    let written = schedule_writer::write_schedule_of(schedule, space);
+    let told = testlib_text::put_written(out, at, b" written", written);
     if check::same(bytes, space) {
-        return text::put(out, told, b" equal");
+        return slices::put(out, told, b" equal");
     }
     told
 }
@@ -96,20 +96,20 @@ fn put_reading(out: &mut [u8], bytes: &[u8], read: Reading) -> usize {
     let verdict = read.verdict;
     match verdict {
         Verdict::Accepted => put_accepted(out, bytes, read.schedule),
-        Verdict::Refused(number, place) => report::put_refusal(out, 0, number, place),
+        Verdict::Refused(number, place) => report_lines::put_refusal(out, 0, number, place),
     }
 }
 
 fn print_line(out: &mut [u8], size: usize) {
-    let ended = text::put(out, size, b"\n");
+    let ended = slices::put(out, size, b"\n");
     printing::print_front(out, ended);
 }
 
 // Answers the schedule that the file of the line reads to.
 fn show_file(out: &mut [u8], line: &[u8]) -> Schedule {
     let mut bytes = [0u8; 2048];
-    let n = test_text::parse_hex(line, &mut bytes);
-    let read = schedule_file::read_schedule(&bytes[0..n]);
+    let n = testlib_text::parse_hex(line, &mut bytes);
+    let read = schedule_reader::read_schedule(&bytes[0..n]);
     let size = put_reading(out, &bytes[0..n], read);
     print_line(out, size);
     read.schedule
@@ -118,12 +118,12 @@ fn show_file(out: &mut [u8], line: &[u8]) -> Schedule {
 // Answers the schedule to be altered from here on. 512 bytes have room for every line: a byte that is left takes three of them.
 fn show_line(line: &[u8], schedule: Schedule) -> Schedule {
     let mut out = [0u8; 512];
-    if test_text::begins(line, b'#') {
-        let size = text::put(&mut out, 0, line);
+    if testlib_text::begins(line, b'#') {
+        let size = slices::put(&mut out, 0, line);
         print_line(&mut out, size);
         return schedule;
     }
-    if test_text::begins(line, b'W') {
+    if testlib_text::begins(line, b'W') {
         let size = put_writing(&mut out, line, schedule);
         print_line(&mut out, size);
         return schedule;
@@ -132,10 +132,10 @@ fn show_line(line: &[u8], schedule: Schedule) -> Schedule {
 }
 
 fn show_lines(text: &[u8]) {
-    let mut schedule = schedule_file::without_links();
+    let mut schedule = schedule_check::without_links();
     let mut at = 0;
     while at < text.len() {
-        let end = test_text::line_end(text, at);
+        let end = testlib_text::line_end(text, at);
         let next = show_line(&text[at..end], schedule);
         schedule = next;
         at = end + 1;

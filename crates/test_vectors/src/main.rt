@@ -1,15 +1,15 @@
 // Reads plans from standard input, each on a line in hexadecimal, and prints for each the refusal, or how its plan and its schedule are written.
 // A line that begins with `#` is printed as it stands.
-use schedule::Verdict;
+use rulings::Verdict;
 use site::Site;
-use writer::Written;
+use slices::Written;
 
 // Writes the site into a slice of just the plan's length and compares.
 fn put_again(out: &mut [u8], at: usize, bytes: &[u8], site: Site, space: &mut [u8]) -> usize {
-    let written = writer::write_plan(site, space);
-    let told = test_text::put_written(out, at, b" plan", written);
+    let written = plan_writer::write_plan(site, space);
+    let told = testlib_text::put_written(out, at, b" plan", written);
     if check::same(bytes, space) {
-        return text::put(out, told, b" equal");
+        return slices::put(out, told, b" equal");
     }
     told
 }
@@ -19,14 +19,14 @@ fn put_first(out: &mut [u8], at: usize, bytes: &[u8], n: usize) -> usize {
     if bytes.len() < n {
         return at;
     }
-    text::put_hex(out, at, &bytes[0..n])
+    hexadecimal::put_hex(out, at, &bytes[0..n])
 }
 
 // 379 bytes are those of 63 links.
 fn put_schedule(out: &mut [u8], at: usize, site: Site) -> usize {
     let mut space = [0u8; 379];
-    let written = writer::write_schedule(site, &mut space);
-    let told = test_text::put_written(out, at, b" schedule", written);
+    let written = schedule_writer::write_schedule(site, &mut space);
+    let told = testlib_text::put_written(out, at, b" schedule", written);
     match written {
         Written::Length(n) => put_first(out, told, &space, n),
         Written::Refused(_, _) => told,
@@ -45,23 +45,23 @@ fn put_accepted(out: &mut [u8], bytes: &[u8], site: Site) -> usize {
 }
 
 fn put_plan(out: &mut [u8], bytes: &[u8]) -> usize {
-    let read = reader::read_plan(bytes);
+    let read = plan_reader::read_plan(bytes);
     let verdict = read.verdict;
     match verdict {
         Verdict::Accepted => put_accepted(out, bytes, read.site),
-        Verdict::Refused(number, place) => report::put_refusal(out, 0, number, place),
+        Verdict::Refused(number, place) => report_lines::put_refusal(out, 0, number, place),
     }
 }
 
 fn put_given(out: &mut [u8], line: &[u8]) -> usize {
     let mut bytes = [0u8; 2048];
-    let n = test_text::parse_hex(line, &mut bytes);
+    let n = testlib_text::parse_hex(line, &mut bytes);
     put_plan(out, &bytes[0..n])
 }
 
 fn put_line(out: &mut [u8], line: &[u8]) -> usize {
-    if test_text::begins(line, b'#') {
-        return text::put(out, 0, line);
+    if testlib_text::begins(line, b'#') {
+        return slices::put(out, 0, line);
     }
     put_given(out, line)
 }
@@ -70,14 +70,14 @@ fn put_line(out: &mut [u8], line: &[u8]) -> usize {
 fn show_line(line: &[u8]) {
     let mut out = [0u8; 2048];
     let told = put_line(&mut out, line);
-    let size = text::put(&mut out, told, b"\n");
+    let size = slices::put(&mut out, told, b"\n");
     printing::print_front(&out, size);
 }
 
 fn show_lines(text: &[u8]) {
     let mut at = 0;
     while at < text.len() {
-        let end = test_text::line_end(text, at);
+        let end = testlib_text::line_end(text, at);
         show_line(&text[at..end]);
         at = end + 1;
     }

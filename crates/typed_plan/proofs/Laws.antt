@@ -1,5 +1,4 @@
 -- What is proved of typed plans. The modules named here hold the lemmas.
-pub mod Operands
 pub mod Plans
 pub mod Listing
 use Prim.Native.Nat.{ℕ, _≤_}
@@ -8,14 +7,14 @@ use mathlib.Core.List.{List, _++_}
 use lib.ListN.{length, drop}
 use borrow.Author.Tests.{le-ltb}
 use native.Mathlib.Omega.{arith}
-use Rattle.pinwheel.specs.Outcome.{accepted}
+use Rattle.rulings.specs.Outcome.{accepted}
 use Rattle.site.specs.declared.Site.{Site}
 use Rattle.format.specs.Words.{Bytes}
-use Rattle.reader.specs.Read.{readOf}
-use Rattle.report.specs.Listing.{listingOf}
-use Rattle.report.proofs.Laws.Short.{listing-short}
+use Rattle.plan_reader.specs.Read.{readOf}
+use Rattle.plan_listing.specs.Listing.{listingOf}
+use Rattle.plan_listing.proofs.Laws.Short.{listing-short}
 use Rattle.typed_plan.specs.declared.Assembled.the-variants.{Length}
-use Rattle.typed_plan.specs.Assemble.{planTyped, stored, assembledOf}
+use Rattle.typed_plan.specs.Assemble.{planTyped, storedPlan, assembledOf}
 use Rattle.typed_plan.proofs.Laws.Plans.{judged}
 use Rattle.typed_plan.proofs.Laws.Listing.{listing-plan, listing-right}
 
@@ -23,7 +22,7 @@ use Rattle.typed_plan.proofs.Laws.Listing.{listing-plan, listing-right}
 -- for them, and the rest of the slice stays.
 pub listing-assembles : (bytes : List ℕ) → Bytes bytes → (s : Site) → readOf bytes ≡ accepted s → (out : List ℕ) → length bytes ≤ length out
     → assembledOf (listingOf bytes) out ≡ (Length (length bytes), bytes ++ drop (length bytes) out)
-unfolding stored
+unfolding storedPlan
 listing-assembles bytes small s e out room =
     judged (listingOf bytes) out (omega (arith, listing-short bytes small)) _ (sym (listing-right bytes small s e 1 (Length (length (planTyped (listingOf bytes))))))
     ∙ rw (listing-plan bytes small s e, le-ltb _ _ room)

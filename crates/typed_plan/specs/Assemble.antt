@@ -5,13 +5,13 @@ use mathlib.Core.List.{List, [], _∷_, _++_}
 use lib.Dec.{ltb}
 use lib.ListN.{length, drop}
 use Rattle.text.specs.Put.{textOf}
-use Rattle.words.specs.Parts.{linesOf}
-use Rattle.writer.specs.Write.{nodeCommand, flowCommand}
-use Rattle.typed_plan.specs.declared.Typed.{Typed}
-use Rattle.typed_plan.specs.declared.Typed.the-variants.{Nothing, Node, Flow, Bad}
+use Rattle.line_words.specs.Parts.{linesOf}
+use Rattle.plan_writer.specs.Write.{nodeCommand, flowCommand}
+use Rattle.typed_line.specs.declared.Typed.{Typed}
+use Rattle.typed_line.specs.declared.Typed.the-variants.{Nothing, Node, Flow, Bad}
 use Rattle.typed_plan.specs.declared.Assembled.{Assembled}
 use Rattle.typed_plan.specs.declared.Assembled.the-variants.{Length, BadLine, Short, Long}
-use Rattle.typed_plan.specs.Lines.{typedLine}
+use Rattle.typed_line.specs.Lines.{typedLine}
 
 -- The command of a line, if it has one.
 unfoldable pub pieceOf : Typed → List (List ℕ)
@@ -41,14 +41,14 @@ unfoldable pub firstWrong : List (List ℕ) → ℕ → Assembled → Assembled
 firstWrong [] k other = other
 firstWrong (l ∷ ls) k other = wrongOr (typedLine l) k (firstWrong ls (k + 1) other)
 
--- A plan of n bytes is stored at the front of a slice that has room for it; every other answer leaves the slice.
-unfoldable pub stored : Assembled → List ℕ → List ℕ → Assembled × List ℕ
-stored (Length n) plan out = cond (ltb (length out) n) (Short, out) (Length n, plan ++ drop n out)
-stored (BadLine k command place) plan out = (BadLine k command place, out)
-stored Short plan out = (Short, out)
-stored Long plan out = (Long, out)
+-- A plan of n bytes is storedPlan at the front of a slice that has room for it; every other answer leaves the slice.
+unfoldable pub storedPlan : Assembled → List ℕ → List ℕ → Assembled × List ℕ
+storedPlan (Length n) plan out = cond (ltb (length out) n) (Short, out) (Length n, plan ++ drop n out)
+storedPlan (BadLine k command place) plan out = (BadLine k command place, out)
+storedPlan Short plan out = (Short, out)
+storedPlan Long plan out = (Long, out)
 
 -- What a text of at most 65,535 bytes and a slice come to.
 unfoldable pub assembledOf : List ℕ → List ℕ → Assembled × List ℕ
 assembledOf text out =
-    cond (ltb 65535 (length text)) (Long, out) (stored (firstWrong (linesOf text) 1 (Length (length (planTyped text)))) (planTyped text) out)
+    cond (ltb 65535 (length text)) (Long, out) (storedPlan (firstWrong (linesOf text) 1 (Length (length (planTyped text)))) (planTyped text) out)

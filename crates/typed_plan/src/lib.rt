@@ -1,21 +1,11 @@
 // Plans typed as text, `node PARENT CAPACITY GAP` and `flow NUMBER NODE RATE DEADLINE` on a line each, turned into plan bytes. No rule of 01 is judged but
 // that each number fits its operand.
-mod lines;
 mod plans;
 
-pub use lines::read_line;
 use plans::check;
 use plans::put_plan;
 ghost use mathlib.Core.Path.{_≡_};
 ghost use Rattle.typed_plan.specs.Assemble.{assembledOf};
-
-// What a line says: a command with its operands; or that it is wrong, with its command, 0 for none, and the place of its first wrong word.
-pub enum Typed {
-    Nothing,
-    Node(u8, u16, u16),
-    Flow(u8, u8, u8, u16),
-    Bad(u8, u8),
-}
 
 // The number of bytes stored; the number of a wrong line, its command and the place of its first wrong word; a slice without room; or a text that is too
 // long.

@@ -1,14 +1,14 @@
 // All lines of a typed plan.
 use crate::Assembled;
-use crate::Typed;
-use crate::lines::read_line;
+use typed_line::Typed;
+use typed_line::read_line;
 ghost use mathlib.Core.Path.{_≡_};
 ghost use Prim.Native.Nat.{_≤_};
 ghost use lib.ListN.{length};
 ghost use Rattle.text.specs.Put.{puts, textOf};
-ghost use Rattle.words.specs.Parts.{linesOf};
+ghost use Rattle.line_words.specs.Parts.{linesOf};
 ghost use Rattle.typed_plan.specs.declared.Assembled.the-variants.{Length};
-ghost use Rattle.typed_plan.specs.Lines.{typedLine};
+ghost use Rattle.typed_line.specs.Lines.{typedLine};
 ghost use Rattle.typed_plan.specs.Assemble.{pieceOf, piecesOf, planTyped, firstWrong};
 
 // How many bytes the command of a line takes.
@@ -32,7 +32,7 @@ pub(crate) fn check(text: &[u8]) -> Assembled
     let mut line = 1;
     let mut size = 1;
     loop {
-        let end = words::find(text, at, b'\n');
+        let end = line_words::find(text, at, b'\n');
         let typed = read_line(&text[at..end]);
         if let Typed::Bad(command, place) = typed {
             return Assembled::BadLine(line, command, place);
@@ -52,12 +52,12 @@ fn put_command(out: &mut [u8], at: usize, typed: Typed) -> usize
     match typed {
         Typed::Nothing => at,
         Typed::Node(parent, capacity, gap) => {
-            let command = writer::node_command(parent, capacity, gap);
-            text::put(out, at, &command)
+            let command = plan_writer::node_command(parent, capacity, gap);
+            slices::put(out, at, &command)
         }
         Typed::Flow(number, entry, rate, deadline) => {
-            let command = writer::flow_command(number, entry, rate, deadline);
-            text::put(out, at, &command)
+            let command = plan_writer::flow_command(number, entry, rate, deadline);
+            slices::put(out, at, &command)
         }
         Typed::Bad(_, _) => at,
     }
@@ -77,10 +77,10 @@ pub(crate) fn put_plan(text: &[u8], out: &mut [u8]) -> usize
     let mut at = 0;
     let mut taken = 0;
     loop {
-        let end = words::find(text, at, b'\n');
+        let end = line_words::find(text, at, b'\n');
         taken = put_line(out, taken, &text[at..end]);
         if end == text.len() {
-            return text::put(out, taken, &[255]);
+            return slices::put(out, taken, &[255]);
         }
         at = end + 1;
     }

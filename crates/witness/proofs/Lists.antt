@@ -4,30 +4,34 @@ use mathlib.Core.Path.{_≡_, refl}
 use mathlib.Core.List.{List, [], _∷_}
 use lib.ListN.{drop}
 use native.Mathlib.Omega.{arith}
-use Rattle.pinwheel.specs.Outcome.{accepted, checked, settled}
-use Rattle.pinwheel.specs.Search.{last, first, any, total, largest, least, smallest, joined}
-use Rattle.pinwheel.specs.Rule.{exponent, period, sum, limit, fits, base, periodsOf}
-use Rattle.pinwheel.specs.Rule.{sends, earlier, taken, freeOffset, turn, level, levels, offsetsFor, offsetsOf}
-use Rattle.pinwheel.specs.Deal.{badGap, firstBad, dealt}
-use Rattle.site.specs.Sites.{used, ofLink, live, withFlow, withoutFlow, withSchedule}
-use Rattle.site.specs.Tree.{up, depthIn, depthOf, climb, route, has}
-use Rattle.site.specs.Reservations.{gapsJudged, routeOf, widthAt, widthOn, sumTo, load, over, firstOver, unfit, firstUnfit, along, late, firstLate}
-use Rattle.schedule.specs.Schedule.{gapsFrom, gapsUnder, rank, dealtUnder, baseOf, baseUnder, crowded, firstCrowded}
-use Rattle.schedule.specs.Schedule.{entryDealt, listed, offsetsDealt, periodsDealt, scheduled, linkSends}
-use Rattle.schedule.specs.Judge.{reserved, judgeOf}
+use Rattle.rulings.specs.Outcome.{accepted, checked, settled}
+use Rattle.lists.specs.Search.{last, first, any}
+use Rattle.lists.specs.Lists.{total, largest, least, smallest, joined, sumTo, listed, same}
+use Rattle.pinwheel.specs.Rule.{exponent, period, sum, limit, fits, base, periodsOf, sends, earlier, taken, freeOffset, turn, level, levels, offsetsFor}
+use Rattle.pinwheel.specs.Rule.{offsetsOf}
+use Rattle.pinwheel.specs.Assign.{badGap, firstBad, assigned}
+use Rattle.site.specs.Sites.{used, live, withFlow, withoutFlow, withSchedule}
+use Rattle.tree.specs.Tree.{ofLink, up, depthIn, depthOf, climb, route, has}
+use Rattle.reservations.specs.Reservations.{periodsJudged, routeOf, widthAt, widthOn, load, over, firstOver, unfit, firstUnfit, along, late, firstLate}
+use Rattle.schedule.specs.Schedule.{gapsFrom, gapsUnder, rank, assignedUnder, baseOf, baseUnder, crowded, firstCrowded, entryAssigned, offsetsAssigned, periodsAssigned}
+use Rattle.schedule.specs.Schedule.{scheduled, linkSends}
+use Rattle.judgement.specs.Judge.{reserved, judgeOf}
 use Rattle.limits.specs.Limits.{badNode, badFlow, nodeLimits, misplaced, flowLimits}
-use Rattle.limits.specs.Check.{shaped, nodeOf, flowOf, illNode, illFlow, firstIllNode, firstIllFlow, formed, same, accepts, stands, passesOf, callFault}
+use Rattle.site_check.specs.Check.{shaped, nodeOf, flowOf, illNode, illFlow, firstIllNode, firstIllFlow, formed, accepts, stands, passesOf, callFault}
 use Rattle.counters.specs.Blocks.{block, withBlock, cellsOf, withCells, zeros}
 use Rattle.queues.specs.Cells.{moved, arrived, delivering, passed, step, waiting, delivered, arrivals, span}
 use Rattle.queues.specs.Pace.{All, Rising, Within}
 use Rattle.admission.specs.Calls.{change, flowRuling, admitRuling, admitOf, numberRuling, releaseRuling, releaseOf}
-use Rattle.simulation.specs.Hops.{own, hopsAlong, hopsOf}
-use Rattle.simulation.specs.Slot.{recounted, overflows, firstOverflow, unexpected, firstUnexpected, arrivalsRuling, slotRuling, cellsAfter, slotOf, startRuling, startOf}
+use Rattle.moves.specs.Hops.{own, hopsAlong, hopsOf}
+use Rattle.moves.specs.Moves.{recounted, cellsAfter}
+use Rattle.slot_checks.specs.Checks.{overflows, firstOverflow, unexpected, firstUnexpected, arrivalsRuling}
+use Rattle.simulation.specs.Slot.{slotRuling, slotOf, startRuling, startOf}
 use Rattle.guarantee.specs.Runs.{Call, slot, admit, State, Promise, called, Log, Run, none, then}
 use Rattle.guarantee.specs.Demand.{entered, slotsOf, Stays, NoStart, rateOf, boundOf, Begins, Allowed, WaitsJoined, Waits, Kept}
 use Rattle.guarantee.proofs.Laws.{demand3, promised, admitted-kept}
-use Rattle.marked.specs.Table.{readP}
-use Rattle.witness.specs.Lists.{played, stateP, arrivalsP, acceptedFrom, flowFive, mixed, admitted, half, mixedLog, sixteen, lone, loneLog, stateFive, paced, pacedLog}
+use Rattle.proved_examples.specs.Table.{readP}
+use Rattle.witness.specs.Lists.{played, stateP, arrivalsP, acceptedFrom, flowFive, mixed, admitted, half, mixedLog, sixteen, lone, loneLog, stateFive}
+use Rattle.witness.specs.Lists.{pacedSlots, pacedLog}
 
 -- What is played is a run.
 pub played-run : (σ₀ : State) (cs : List Call) (l : Log) (σ : State) → Run own σ₀ l σ → Run own σ₀ (played cs l σ .0) (played cs l σ .1)
@@ -37,7 +41,7 @@ played-run σ₀ (c ∷ cs) l σ run = played-run σ₀ cs _ _ (then c (called o
 
 -- What the definitions give, by computing. Where the lists begin, and G = 7.
 pub begins-p : Begins 0 stateP
-unfolding called played stateP moved arrived delivering passed step hopsAlong hopsOf cellsOf linkSends recounted overflows firstOverflow unexpected firstUnexpected arrivalsRuling slotRuling cellsAfter slotOf startRuling startOf checked settled block withBlock withCells zeros unfit firstUnfit callFault change flowRuling admitRuling admitOf numberRuling releaseRuling releaseOf last first any total largest least smallest exponent period sum limit fits base periodsOf sends earlier taken freeOffset turn level levels offsetsFor offsetsOf badGap firstBad dealt ofLink live withFlow withoutFlow withSchedule up depthIn depthOf climb route has used gapsFrom gapsUnder rank dealtUnder baseOf baseUnder crowded firstCrowded entryDealt listed offsetsDealt periodsDealt scheduled gapsJudged routeOf widthAt widthOn sumTo load over firstOver along late firstLate reserved judgeOf badNode badFlow nodeLimits misplaced flowLimits joined shaped nodeOf flowOf illNode illFlow firstIllNode firstIllFlow formed same accepts stands passesOf
+unfolding called played stateP moved arrived delivering passed step hopsAlong hopsOf cellsOf linkSends recounted overflows firstOverflow unexpected firstUnexpected arrivalsRuling slotRuling cellsAfter slotOf startRuling startOf checked settled block withBlock withCells zeros unfit firstUnfit callFault change flowRuling admitRuling admitOf numberRuling releaseRuling releaseOf last first any total largest least smallest exponent period sum limit fits base periodsOf sends earlier taken freeOffset turn level levels offsetsFor offsetsOf badGap firstBad assigned ofLink live withFlow withoutFlow withSchedule up depthIn depthOf climb route has used gapsFrom gapsUnder rank assignedUnder baseOf baseUnder crowded firstCrowded entryAssigned listed offsetsAssigned periodsAssigned scheduled periodsJudged routeOf widthAt widthOn sumTo load over firstOver along late firstLate reserved judgeOf badNode badFlow nodeLimits misplaced flowLimits joined shaped nodeOf flowOf illNode illFlow firstIllNode firstIllFlow formed same accepts stands passesOf
 begins-p = record { passes = refl; counted = refl; living = refl; empty = refl }
 
 pub bound-p : boundOf own readP 0 ≡ 7
@@ -63,15 +67,15 @@ pub record SixteenPlayed : Type 0 where
   pub wait : waiting (arrived 3 (cellsOf 0 (played sixteen [] stateP .1 .counters))) ≡ 21
 
 pub mixed-played : MixedPlayed
-unfolding called played stateP moved arrived delivering passed step hopsAlong hopsOf cellsOf linkSends recounted overflows firstOverflow unexpected firstUnexpected arrivalsRuling slotRuling cellsAfter slotOf startRuling startOf checked settled block withBlock withCells zeros unfit firstUnfit callFault change flowRuling admitRuling admitOf numberRuling releaseRuling releaseOf last first any total largest least smallest exponent period sum limit fits base periodsOf sends earlier taken freeOffset turn level levels offsetsFor offsetsOf badGap firstBad dealt ofLink live withFlow withoutFlow withSchedule up depthIn depthOf climb route has used gapsFrom gapsUnder rank dealtUnder baseOf baseUnder crowded firstCrowded entryDealt listed offsetsDealt periodsDealt scheduled gapsJudged routeOf widthAt widthOn sumTo load over firstOver along late firstLate reserved judgeOf badNode badFlow nodeLimits misplaced flowLimits joined shaped nodeOf flowOf illNode illFlow firstIllNode firstIllFlow formed same accepts stands passesOf
+unfolding called played stateP moved arrived delivering passed step hopsAlong hopsOf cellsOf linkSends recounted overflows firstOverflow unexpected firstUnexpected arrivalsRuling slotRuling cellsAfter slotOf startRuling startOf checked settled block withBlock withCells zeros unfit firstUnfit callFault change flowRuling admitRuling admitOf numberRuling releaseRuling releaseOf last first any total largest least smallest exponent period sum limit fits base periodsOf sends earlier taken freeOffset turn level levels offsetsFor offsetsOf badGap firstBad assigned ofLink live withFlow withoutFlow withSchedule up depthIn depthOf climb route has used gapsFrom gapsUnder rank assignedUnder baseOf baseUnder crowded firstCrowded entryAssigned listed offsetsAssigned periodsAssigned scheduled periodsJudged routeOf widthAt widthOn sumTo load over firstOver along late firstLate reserved judgeOf badNode badFlow nodeLimits misplaced flowLimits joined shaped nodeOf flowOf illNode illFlow firstIllNode firstIllFlow formed same accepts stands passesOf
 mixed-played = record { log = refl; cells = refl }
 
 pub lone-played : LonePlayed
-unfolding called played stateP moved arrived delivering passed step hopsAlong hopsOf cellsOf linkSends recounted overflows firstOverflow unexpected firstUnexpected arrivalsRuling slotRuling cellsAfter slotOf startRuling startOf checked settled block withBlock withCells zeros unfit firstUnfit callFault change flowRuling admitRuling admitOf numberRuling releaseRuling releaseOf last first any total largest least smallest exponent period sum limit fits base periodsOf sends earlier taken freeOffset turn level levels offsetsFor offsetsOf badGap firstBad dealt ofLink live withFlow withoutFlow withSchedule up depthIn depthOf climb route has used gapsFrom gapsUnder rank dealtUnder baseOf baseUnder crowded firstCrowded entryDealt listed offsetsDealt periodsDealt scheduled gapsJudged routeOf widthAt widthOn sumTo load over firstOver along late firstLate reserved judgeOf badNode badFlow nodeLimits misplaced flowLimits joined shaped nodeOf flowOf illNode illFlow firstIllNode firstIllFlow formed same accepts stands passesOf delivered
+unfolding called played stateP moved arrived delivering passed step hopsAlong hopsOf cellsOf linkSends recounted overflows firstOverflow unexpected firstUnexpected arrivalsRuling slotRuling cellsAfter slotOf startRuling startOf checked settled block withBlock withCells zeros unfit firstUnfit callFault change flowRuling admitRuling admitOf numberRuling releaseRuling releaseOf last first any total largest least smallest exponent period sum limit fits base periodsOf sends earlier taken freeOffset turn level levels offsetsFor offsetsOf badGap firstBad assigned ofLink live withFlow withoutFlow withSchedule up depthIn depthOf climb route has used gapsFrom gapsUnder rank assignedUnder baseOf baseUnder crowded firstCrowded entryAssigned listed offsetsAssigned periodsAssigned scheduled periodsJudged routeOf widthAt widthOn sumTo load over firstOver along late firstLate reserved judgeOf badNode badFlow nodeLimits misplaced flowLimits joined shaped nodeOf flowOf illNode illFlow firstIllNode firstIllFlow formed same accepts stands passesOf delivered
 lone-played = record { log = refl; later = refl; waits = refl; leaves = refl }
 
 pub sixteen-played : SixteenPlayed
-unfolding called played stateP moved arrived delivering passed step hopsAlong hopsOf cellsOf linkSends recounted overflows firstOverflow unexpected firstUnexpected arrivalsRuling slotRuling cellsAfter slotOf startRuling startOf checked settled block withBlock withCells zeros unfit firstUnfit callFault change flowRuling admitRuling admitOf numberRuling releaseRuling releaseOf last first any total largest least smallest exponent period sum limit fits base periodsOf sends earlier taken freeOffset turn level levels offsetsFor offsetsOf badGap firstBad dealt ofLink live withFlow withoutFlow withSchedule up depthIn depthOf climb route has used gapsFrom gapsUnder rank dealtUnder baseOf baseUnder crowded firstCrowded entryDealt listed offsetsDealt periodsDealt scheduled gapsJudged routeOf widthAt widthOn sumTo load over firstOver along late firstLate reserved judgeOf badNode badFlow nodeLimits misplaced flowLimits joined shaped nodeOf flowOf illNode illFlow firstIllNode firstIllFlow formed same accepts stands passesOf waiting
+unfolding called played stateP moved arrived delivering passed step hopsAlong hopsOf cellsOf linkSends recounted overflows firstOverflow unexpected firstUnexpected arrivalsRuling slotRuling cellsAfter slotOf startRuling startOf checked settled block withBlock withCells zeros unfit firstUnfit callFault change flowRuling admitRuling admitOf numberRuling releaseRuling releaseOf last first any total largest least smallest exponent period sum limit fits base periodsOf sends earlier taken freeOffset turn level levels offsetsFor offsetsOf badGap firstBad assigned ofLink live withFlow withoutFlow withSchedule up depthIn depthOf climb route has used gapsFrom gapsUnder rank assignedUnder baseOf baseUnder crowded firstCrowded entryAssigned listed offsetsAssigned periodsAssigned scheduled periodsJudged routeOf widthAt widthOn sumTo load over firstOver along late firstLate reserved judgeOf badNode badFlow nodeLimits misplaced flowLimits joined shaped nodeOf flowOf illNode illFlow firstIllNode firstIllFlow formed same accepts stands passesOf waiting
 sixteen-played = record { log = refl; next = refl; wait = refl }
 
 -- Flow f stays admitted and no rehearsal starts anew in this log; and so in one with accepted slots on top.
@@ -153,21 +157,21 @@ pub record FivePlayed : Type 0 where
   pub answer : called own (admit flowFive) stateP ≡ (accepted tt, stateFive)
   pub rate : rateOf (stateFive .site) 5 ≡ 4
   pub bound : boundOf own (stateFive .site) 5 ≡ 4
-  pub log : played (paced 3) [] stateFive .0 ≡ pacedLog 3
-  pub later : played (paced 4) [] stateFive .0 ≡ pacedLog 4
-  pub waits : cellsOf 5 (played (paced 3) [] stateFive .1 .counters) ≡ 12 ∷ 0 ∷ 0 ∷ 0 ∷ 0 ∷ 0 ∷ 0 ∷ 0 ∷ 0 ∷ []
-  pub leaves : cellsOf 5 (played (paced 4) [] stateFive .1 .counters) ≡ 0 ∷ 0 ∷ 0 ∷ 0 ∷ 0 ∷ 0 ∷ 0 ∷ 0 ∷ 16 ∷ []
+  pub log : played (pacedSlots 3) [] stateFive .0 ≡ pacedLog 3
+  pub later : played (pacedSlots 4) [] stateFive .0 ≡ pacedLog 4
+  pub waits : cellsOf 5 (played (pacedSlots 3) [] stateFive .1 .counters) ≡ 12 ∷ 0 ∷ 0 ∷ 0 ∷ 0 ∷ 0 ∷ 0 ∷ 0 ∷ 0 ∷ []
+  pub leaves : cellsOf 5 (played (pacedSlots 4) [] stateFive .1 .counters) ≡ 0 ∷ 0 ∷ 0 ∷ 0 ∷ 0 ∷ 0 ∷ 0 ∷ 0 ∷ 16 ∷ []
 
 pub five-played : FivePlayed
-unfolding called played stateP stateFive moved arrived delivering passed step hopsAlong hopsOf cellsOf linkSends recounted overflows firstOverflow unexpected firstUnexpected arrivalsRuling slotRuling cellsAfter slotOf startRuling startOf checked settled block withBlock withCells zeros unfit firstUnfit callFault change flowRuling admitRuling admitOf numberRuling releaseRuling releaseOf last first any total largest least smallest exponent period sum limit fits base periodsOf sends earlier taken freeOffset turn level levels offsetsFor offsetsOf badGap firstBad dealt ofLink live withFlow withoutFlow withSchedule up depthIn depthOf climb route has used gapsFrom gapsUnder rank dealtUnder baseOf baseUnder crowded firstCrowded entryDealt listed offsetsDealt periodsDealt scheduled gapsJudged routeOf widthAt widthOn sumTo load over firstOver along late firstLate reserved judgeOf badNode badFlow nodeLimits misplaced flowLimits joined shaped nodeOf flowOf illNode illFlow firstIllNode firstIllFlow formed same accepts stands passesOf span
+unfolding called played stateP stateFive moved arrived delivering passed step hopsAlong hopsOf cellsOf linkSends recounted overflows firstOverflow unexpected firstUnexpected arrivalsRuling slotRuling cellsAfter slotOf startRuling startOf checked settled block withBlock withCells zeros unfit firstUnfit callFault change flowRuling admitRuling admitOf numberRuling releaseRuling releaseOf last first any total largest least smallest exponent period sum limit fits base periodsOf sends earlier taken freeOffset turn level levels offsetsFor offsetsOf badGap firstBad assigned ofLink live withFlow withoutFlow withSchedule up depthIn depthOf climb route has used gapsFrom gapsUnder rank assignedUnder baseOf baseUnder crowded firstCrowded entryAssigned listed offsetsAssigned periodsAssigned scheduled periodsJudged routeOf widthAt widthOn sumTo load over firstOver along late firstLate reserved judgeOf badNode badFlow nodeLimits misplaced flowLimits joined shaped nodeOf flowOf illNode illFlow firstIllNode firstIllFlow formed same accepts stands passesOf span
 five-played = record { answer = refl; rate = refl; bound = refl; log = refl; later = refl; waits = refl; leaves = refl }
 
 -- All of demand 3 holds of it from its admission on.
-pub five-kept : Kept own 5 stateFive (played (paced 4) [] stateFive .0) (played (paced 4) [] stateFive .1) (played-run stateFive (paced 4) [] stateFive none)
+pub five-kept : Kept own 5 stateFive (played (pacedSlots 4) [] stateFive .0) (played (pacedSlots 4) [] stateFive .1) (played-run stateFive (pacedSlots 4) [] stateFive none)
 unfolding All Rising slotsOf entered
 five-kept =
     let calm = calm-slots 5 4 2 (arrivalsP 0 4) [] (tt, tt) in
-    admitted-kept stateP stateFive flowFive admitted-five _ _ (played-run stateFive (paced 4) [] stateFive none)
+    admitted-kept stateP stateFive flowFive admitted-five _ _ (played-run stateFive (pacedSlots 4) [] stateFive none)
     (rw (five-played .later) (record { stays = calm .0; unbroken = calm .1; rising = omega arith; rated = rw (five-played .rate) (omega arith) }))
   where
     admitted-five : Promise own (admit flowFive) stateP (accepted tt) stateFive

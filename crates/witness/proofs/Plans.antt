@@ -3,26 +3,28 @@ use Prim.Native.Nat.{ℕ, zero, suc, _<_}
 use mathlib.Core.Path.{_≡_, refl}
 use mathlib.Core.List.{List, [], _∷_}
 use native.Mathlib.Omega.{arith}
-use Rattle.pinwheel.specs.Outcome.{accepted, refused, orElse}
-use Rattle.pinwheel.specs.Search.{last, first, any, total, largest, least, smallest}
-use Rattle.pinwheel.specs.Rule.{exponent, period, sum, limit, fits, base, periodsOf}
-use Rattle.pinwheel.specs.Rule.{sends, earlier, taken, freeOffset, turn, level, levels, offsetsFor, offsetsOf}
-use Rattle.pinwheel.specs.Deal.{badGap, firstBad, dealt}
-use Rattle.pinwheel.proofs.Laws.Outcomes.{refused-not}
+use Rattle.rulings.specs.Outcome.{accepted, refused, orElse}
+use Rattle.lists.specs.Search.{last, first, any}
+use Rattle.lists.specs.Lists.{total, largest, least, smallest, sumTo, listed}
+use Rattle.pinwheel.specs.Rule.{exponent, period, sum, limit, fits, base, periodsOf, sends, earlier, taken, freeOffset, turn, level, levels, offsetsFor}
+use Rattle.pinwheel.specs.Rule.{offsetsOf}
+use Rattle.pinwheel.specs.Assign.{badGap, firstBad, assigned}
+use Rattle.rulings.proofs.Laws.Outcomes.{refused-not}
 use Rattle.site.specs.declared.Site.{Site}
-use Rattle.site.specs.Sites.{used, ofLink, live, withFlow, withSchedule}
-use Rattle.site.specs.Tree.{up, depthIn, depthOf, climb, route, has}
-use Rattle.site.specs.Reservations.{gapsJudged, routeOf, widthAt, widthOn, sumTo, load, over, firstOver, along, late, firstLate}
-use Rattle.schedule.specs.Schedule.{gapsFrom, gapsUnder, rank, dealtUnder, baseOf, baseUnder, crowded, firstCrowded}
-use Rattle.schedule.specs.Schedule.{entryDealt, listed, offsetsDealt, periodsDealt, scheduled}
-use Rattle.schedule.specs.Judge.{withSite, reserved, judgeOf}
+use Rattle.site.specs.Sites.{used, live, withFlow, withSchedule}
+use Rattle.tree.specs.Tree.{ofLink, up, depthIn, depthOf, climb, route, has}
+use Rattle.reservations.specs.Reservations.{periodsJudged, routeOf, widthAt, widthOn, load, over, firstOver, along, late, firstLate}
+use Rattle.schedule.specs.Schedule.{gapsFrom, gapsUnder, rank, assignedUnder, baseOf, baseUnder, crowded, firstCrowded, entryAssigned, offsetsAssigned, periodsAssigned}
+use Rattle.schedule.specs.Schedule.{scheduled}
+use Rattle.judgement.specs.Judge.{withSite, reserved, judgeOf}
 use Rattle.limits.specs.Limits.{badNode, badFlow, nodeLimits, misplaced, flowLimits}
 use Rattle.format.specs.Commands.{sizeOf}
 use Rattle.format.specs.Bytes.{numberAt}
 use Rattle.format.specs.Reading.{faultOf, ended, readFrom}
 use Rattle.format.specs.Words.{Bytes}
-use Rattle.reader.specs.Read.{nodeAt, flowAt, nodeFault, flowFault, laterFault, withNode, nodeAdded, flowAdded, after, decode, judgeForm, readOf}
-use Rattle.plan.specs.Former.{formerWidth, formerLoad, formerOver, firstFormerOver, formerLate, firstFormerLate, formerReserved, formerJudgeOf, formerForm, formerRead}
+use Rattle.plan_reader.specs.Read.{nodeAt, flowAt, nodeFault, flowFault, laterFault, withNode, nodeAdded, flowAdded, after, decode, judgeForm, readOf}
+use Rattle.plan.specs.Former.{formerWidth, formerLoad, formerOver, firstFormerOver, formerLate, firstFormerLate, formerReserved, formerJudgeOf, formerForm}
+use Rattle.plan.specs.Former.{formerRead}
 use Rattle.queues.specs.Pace.{All}
 use Rattle.witness.specs.Plans.{lanes}
 
@@ -34,7 +36,7 @@ pub record LanesRead : Type 0 where
   pub punctual : (t : Site) × (readOf (lanes 3) ≡ accepted t)
 
 pub lanes-read : LanesRead
-unfolding last first any total largest least smallest exponent period sum limit fits base periodsOf sends earlier taken freeOffset turn level levels offsetsFor offsetsOf badGap firstBad dealt ofLink live withFlow withSchedule up depthIn depthOf climb route has used gapsFrom gapsUnder rank dealtUnder baseOf baseUnder crowded firstCrowded entryDealt listed offsetsDealt periodsDealt scheduled gapsJudged routeOf widthAt widthOn sumTo load over firstOver along late firstLate orElse withSite reserved judgeOf numberAt nodeAt flowAt badNode badFlow nodeLimits misplaced flowLimits nodeFault flowFault laterFault sizeOf faultOf ended readFrom withNode nodeAdded flowAdded after decode judgeForm readOf formerWidth formerLoad formerOver firstFormerOver formerLate firstFormerLate formerReserved formerJudgeOf formerForm formerRead
+unfolding last first any total largest least smallest exponent period sum limit fits base periodsOf sends earlier taken freeOffset turn level levels offsetsFor offsetsOf badGap firstBad assigned ofLink live withFlow withSchedule up depthIn depthOf climb route has used gapsFrom gapsUnder rank assignedUnder baseOf baseUnder crowded firstCrowded entryAssigned listed offsetsAssigned periodsAssigned scheduled periodsJudged routeOf widthAt widthOn sumTo load over firstOver along late firstLate orElse withSite reserved judgeOf numberAt nodeAt flowAt badNode badFlow nodeLimits misplaced flowLimits nodeFault flowFault laterFault sizeOf faultOf ended readFrom withNode nodeAdded flowAdded after decode judgeForm readOf formerWidth formerLoad formerOver firstFormerOver formerLate firstFormerLate formerReserved formerJudgeOf formerForm formerRead
 lanes-read = record { full = refl; late = refl; fits = (withSite (readOf (lanes 4)) .1, refl); punctual = (withSite (readOf (lanes 3)) .1, refl) }
 
 all-bytes : (xs : List ℕ) → All (λ (x : ℕ). x < 256) xs → Bytes xs

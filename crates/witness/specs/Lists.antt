@@ -2,11 +2,11 @@
 use Prim.Native.Nat.{ℕ, zero, suc, _+_}
 use mathlib.Core.List.{List, [], _∷_, _++_}
 use lib.ListN.{replicate}
-use Rattle.pinwheel.specs.Outcome.{accepted, refused}
+use Rattle.rulings.specs.Outcome.{accepted, refused}
 use Rattle.site.specs.declared.Flow.{Flow}
-use Rattle.simulation.specs.Hops.{own}
+use Rattle.moves.specs.Hops.{own}
 use Rattle.guarantee.specs.Runs.{Call, slot, admit, release, State, called, Log}
-use Rattle.marked.specs.Table.{readP, counters}
+use Rattle.proved_examples.specs.Table.{readP, counters}
 
 -- The log and the state after these calls, from a log and a state.
 unfoldable pub played : List Call → Log → State → Log × State
@@ -67,8 +67,8 @@ unfoldable pub stateFive : State
 stateFive = called own (admit flowFive) stateP .1
 
 -- n slots from number 2 on in which flow 5 gets its rate. Link 2 sends in slot 5 for the first time.
-abbrev pub paced : ℕ → List Call
-paced n = slotsFrom n 2 (arrivalsP 0 4)
+abbrev pub pacedSlots : ℕ → List Call
+pacedSlots n = slotsFrom n 2 (arrivalsP 0 4)
 
 abbrev pub pacedLog : ℕ → Log
 pacedLog n = acceptedFrom n 2 (arrivalsP 0 4) []

@@ -8,15 +8,16 @@ use lib.Seq.{set-set, set-getD}
 use borrow.Author.Tests.{eqb-true}
 use native.Mathlib.Omega.{arith}
 use Rattle.site.specs.declared.Site.{Site}
-use Rattle.site.specs.Sites.{ofLink, live, withFlow, withoutFlow}
-use Rattle.site.specs.Tree.{has}
-use Rattle.site.specs.Reservations.{gapsJudged, routeOf, widthAt, widthOn, load, delayBound}
-use Rattle.site.specs.Words.{RoomAlong}
-use Rattle.site.proofs.Laws.Tree.{has-when, route-within}
-use Rattle.site.proofs.Laws.Reservations.{width-live, live-here, load-taken}
-use Rattle.limits.specs.Check.{flowOf}
-use Rattle.limits.specs.Words.{Sound}
-use Rattle.limits.proofs.Laws.Flows.{live-fits, live-few, sound-without}
+use Rattle.tree.specs.Tree.{ofLink, has}
+use Rattle.site.specs.Sites.{live, withFlow, withoutFlow}
+use Rattle.reservations.specs.Reservations.{periodsJudged, routeOf, widthAt, widthOn, load, delayBound}
+use Rattle.reservations.specs.Words.{RoomAlong}
+use Rattle.tree.proofs.Laws.Tree.{has-when, route-within}
+use Rattle.reservations.proofs.Laws.Reservations.{width-live, load-taken}
+use Rattle.site.proofs.Laws.Flows.{live-here}
+use Rattle.site_check.specs.Check.{flowOf}
+use Rattle.site_check.specs.Words.{Sound}
+use Rattle.site_check.proofs.Laws.Flows.{live-fits, live-few, sound-without}
 use Rattle.admission.specs.Calls.{routeFor}
 use Rattle.admission.specs.Words.{Admissible}
 
@@ -33,11 +34,11 @@ module _ (s : Site) (w : Sound s) (n : ℕ) (l : live s n ≡ true) where
 
   -- What the flow kept of a link of its route is what it asks for now.
   again-fits : (m : ℕ) → has m (routeOf s n) ≡ true
-      → load (withoutFlow s n) m + widthAt (gapsJudged s) (getD (s .rates) n 0) m ≤ ofLink (s .capacities) m
+      → load (withoutFlow s n) m + widthAt (periodsJudged s) (getD (s .rates) n 0) m ≤ ofLink (s .capacities) m
   unfolding flowOf routeOf
   again-fits m h =
       let on = route-within (s .parents) m (getD (s .entries) n 0) h in
-      let kept : widthOn s m n ≡ widthAt (gapsJudged s) (getD (s .rates) n 0) m = width-live s m n l ∙ rw h in
+      let kept : widthOn s m n ≡ widthAt (periodsJudged s) (getD (s .rates) n 0) m = width-live s m n l ∙ rw h in
       omega (
         arith,
         load-taken s n few (w .formed .shape .states) m,
@@ -45,7 +46,7 @@ module _ (s : Site) (w : Sound s) (n : ℕ) (l : live s n ≡ true) where
       )
 
   again-room : RoomAlong (withoutFlow s n) (flowOf s n .rate) (routeFor (withoutFlow s n) (flowOf s n))
-  unfolding withoutFlow flowOf routeOf gapsJudged widthAt
+  unfolding withoutFlow flowOf routeOf periodsJudged widthAt
   again-room = record { each = λ j h. again-fits _ (has-when _ (routeOf s n) .1 (j, h, refl)) }
 
   pub again-admissible : (counters : List ℕ) → length counters ≡ 576 → Admissible (withoutFlow s n) counters (flowOf s n)

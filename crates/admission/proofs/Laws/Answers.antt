@@ -5,18 +5,17 @@ use mathlib.Core.Bool.{Bool, true, false, not}
 use mathlib.Core.List.{List}
 use lib.ListN.{length}
 use borrow.Author.Tests.{lt-ltb, le-ltb, le-leb, eq-eqb, ne-eqb}
-use Rattle.pinwheel.specs.Outcome.{Ruling, accepted, refused, checked, settled}
-use Rattle.pinwheel.proofs.Laws.Outcomes.{checked-pass, checked-fail}
+use Rattle.rulings.specs.Outcome.{Ruling, accepted, refused, checked, settled, ruling}
+use Rattle.rulings.proofs.Laws.Outcomes.{checked-pass, checked-fail}
 use Rattle.site.specs.declared.Site.{Site}
 use Rattle.site.specs.declared.Flow.{Flow}
 use Rattle.site.specs.Sites.{live}
-use Rattle.site.specs.Tree.{route}
-use Rattle.site.specs.Reservations.{gapsJudged, along}
-use Rattle.schedule.specs.declared.Verdict.{Verdict}
-use Rattle.schedule.specs.declared.Verdict.the-variants.{Accepted, Refused}
-use Rattle.schedule.specs.Judge.{ruling}
+use Rattle.tree.specs.Tree.{route}
+use Rattle.reservations.specs.Reservations.{periodsJudged, along}
+use Rattle.rulings.specs.declared.Verdict.{Verdict}
+use Rattle.rulings.specs.declared.Verdict.the-variants.{Accepted, Refused}
 use Rattle.limits.specs.Limits.{flowLimits}
-use Rattle.limits.specs.Check.{callFault}
+use Rattle.site_check.specs.Check.{callFault}
 use Rattle.counters.specs.Blocks.{withCells, zeros, cleared}
 use Rattle.admission.specs.Calls.{change, unfitLink, flowRuling, numberRuling}
 
@@ -36,7 +35,7 @@ module _ (s : Site) (f : Flow) (limit : ℕ) (limits : limit ≡ flowLimits (s .
       unfolding flowRuling
       flow-unfit n = rw (← limits, checked-pass limit _ within, ← lives, free, ← links, ne-eqb _ _ n)
 
-      module _ (room : link ≡ 0) (sum : ℕ) (sums : sum ≡ along (gapsJudged s) (route (s .parents) (f .entry))) where
+      module _ (room : link ≡ 0) (sum : ℕ) (sums : sum ≡ along (periodsJudged s) (route (s .parents) (f .entry))) where
         pub flow-late : f .deadline < sum → refused 18 (f .number) ≡ flowRuling s f
         unfolding flowRuling
         flow-late l = rw (← limits, checked-pass limit _ within, ← lives, free, ← links, eq-eqb _ _ room, ← sums, lt-ltb _ _ l)

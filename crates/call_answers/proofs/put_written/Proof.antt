@@ -1,6 +1,6 @@
 -- Right because each case puts its own text.
 use borrow.Author.Needs.{needs}
-use Rattle.call_answers.specs.Inner.{writtenText}
+use Rattle.call_answers.specs.Inner.{writtenShown}
 use Rattle.call_answers.proofs.put_written.Statement.{statement}
 use Rattle.call_answers.proofs.put_written.Tie as tie
 
@@ -20,14 +20,14 @@ same-length : tie.Need-same-length
 same-length c = search needs
 
 returns : tie.Need-returns
-unfolding writtenText
+unfolding writtenShown
 returns c = rw (c .before .before .before .before .before .written .given .1) (c .before .before .put-front .ensures)
 
 same-length-2 : tie.Need-same-length-2
 same-length-2 c = search needs
 
 returns-2 : tie.Need-returns-2
-unfolding writtenText
+unfolding writtenShown
 returns-2 c = rw (c .before .before .before .before .before .written2 .given .1) (c .before .before .put-refusal .ensures)
 
 pub put-written-spec : {M : Type 1} → statement M

@@ -8,11 +8,11 @@ use lib.Seq.{take-all}
 use borrow.Author.Tests.{not-true, not-false}
 use native.Mathlib.Omega.{arith}
 use Rattle.text.specs.Decimal.{valueOf, isNumber, given}
-use Rattle.words.specs.Parts.{is, Reaches}
-use Rattle.words.specs.Words.{wordsOf, none, NextWord}
-use Rattle.words.proofs.Laws.Parts.{before-reached}
-use Rattle.words.proofs.Laws.Words.{no-words, word-begins, first-word}
-use Rattle.words.proofs.Laws.Numbers.{number-small}
+use Rattle.line_words.specs.Parts.{is, Reaches}
+use Rattle.line_words.specs.Words.{wordsOf, none, NextWord}
+use Rattle.line_words.proofs.Laws.Parts.{before-reached}
+use Rattle.line_words.proofs.Laws.Words.{no-words, word-begins, first-word}
+use Rattle.line_words.proofs.Laws.Numbers.{number-small}
 use Rattle.call_text.specs.Lines.{flowPart, countPart, isNew, putCount, putName, countsOf, arrivalsOf}
 use Rattle.call_text.specs.Inner.{takenOf}
 

@@ -13,16 +13,18 @@ use Rattle.text.specs.Decimal.{decimal, valueOf, given, isNumber}
 use Rattle.text.specs.Put.{textOf}
 use Rattle.text.specs.Listed.{each, spacedDecimal}
 use Rattle.text.proofs.Laws.Decimal.{decimal-value, decimal-number}
-use Rattle.words.specs.Parts.{parts, firstPart, before, is}
-use Rattle.words.specs.Words.{isBlank, wordsOf, none, alike, said}
-use Rattle.words.proofs.Laws.Words.{first-letter}
-use Rattle.words.proofs.Laws.Numbers.{number-small}
-use Rattle.words.proofs.Laws.Parts.{unmarked, unmarked-first}
-use Rattle.words.proofs.Laws.Spaced.{unmarked-decimal, words-spaced}
+use Rattle.line_words.specs.Parts.{parts, firstPart, before, is}
+use Rattle.line_words.specs.Words.{isBlank, wordsOf, none, said}
+use Rattle.lists.specs.Lists.{same}
+use Rattle.line_words.proofs.Laws.Words.{first-letter}
+use Rattle.line_words.proofs.Laws.Numbers.{number-small}
+use Rattle.line_words.proofs.Laws.Parts.{unmarked, unmarked-first}
+use Rattle.line_words.proofs.Laws.Spaced.{unmarked-decimal, words-spaced}
 use Rattle.call_text.specs.declared.Call.the-variants.{Slot, Admit}
 use Rattle.call_text.specs.declared.Line.the-variants.{Makes}
 use Rattle.call_text.specs.declared.Asked.{Asked}
-use Rattle.call_text.specs.Lines.{alone, numbers, admitOf, flowPart, countPart, isNew, putCount, putName, countsOf, arrivalsOf, slotWith, slotOf, otherOf, requestOf, askedOf}
+use Rattle.call_text.specs.Lines.{alone, numbers, admitLine, flowPart, countPart, isNew, putCount, putName, countsOf, arrivalsOf, slotWith, slotLine}
+use Rattle.call_text.specs.Lines.{otherOf, requestOf, askedOf}
 
 -- A line asks for what its words ask for, unless the first of them begins with `#`.
 pub by-words : (line name : List ℕ) (words : List (List ℕ)) → wordsOf line ≡ name ∷ words → (getD name 0 0 ≡ 35 → ⊥) → askedOf line ≡ requestOf (name ∷ words)
@@ -37,7 +39,7 @@ by-words line name words e n = rw (ne-eqb (getD line 0 0) 35 (λ q. n (begins li
 pub admit-line : (line : List ℕ) (number entry rate deadline : ℕ) → number ≤ 255 → entry ≤ 255 → rate ≤ 255 → deadline ≤ 65535
     → wordsOf line ≡ letters "admit" ∷ decimal number ∷ decimal entry ∷ decimal rate ∷ decimal deadline ∷ []
     → askedOf line ≡ alone (Makes (Admit (record { number = number; entry = entry; rate = rate; deadline = deadline })))
-unfolding requestOf otherOf admitOf alike none numbers said
+unfolding requestOf otherOf admitLine same none numbers said
 admit-line line number entry rate deadline n e r d ws =
     by-words line _ _ ws (λ q. absurd (omega arith))
     ∙ rw (decimal-number number 255 n, decimal-number entry 255 e, decimal-number rate 255 r, decimal-number deadline 65535 d, decimal-value number, decimal-value entry, decimal-value rate, decimal-value deadline)
@@ -53,7 +55,7 @@ admit-typed number entry rate deadline n e r d =
 -- The word slot, a number and words that give arrivals ask for that slot.
 pub slot-line : (line counts : List ℕ) (t : ℕ) (words : List (List ℕ)) → t ≤ 4294967295 → arrivalsOf words ≡ (true, counts)
     → wordsOf line ≡ letters "slot" ∷ decimal t ∷ words → askedOf line ≡ record { line = Makes (Slot t); arrivals = counts }
-unfolding requestOf slotOf slotWith alike
+unfolding requestOf slotLine slotWith same
 slot-line line counts t words l a ws = by-words line _ _ ws (λ q. absurd (omega arith)) ∙ rw (decimal-number t 4294967295 l, decimal-value t, a)
 
 -- The parts of a word that is written as N=K; 61 is the byte of `=`.
@@ -174,15 +176,15 @@ either-long : (b : Bool) (x y : Asked) → length (x .arrivals) ≡ 64 → lengt
 either-long true x y e f = e
 either-long false x y e f = f
 
-slot-long : (words : List (List ℕ)) → length (slotOf words .arrivals) ≡ 64
-unfolding slotOf alone arrivalsOf
+slot-long : (words : List (List ℕ)) → length (slotLine words .arrivals) ≡ 64
+unfolding slotLine alone arrivalsOf
 slot-long [] = refl
 slot-long (word ∷ words) = either-long (isNumber word 4294967295) _ _ (with-long (valueOf word) (arrivalsOf words) (counts-long words (replicate 64 0) (replicate 64 false) refl)) refl
 
 request-long : (words : List (List ℕ)) → length (requestOf words .arrivals) ≡ 64
 unfolding requestOf alone
 request-long [] = refl
-request-long (name ∷ words) = either-long (alike name (letters "slot")) _ _ (slot-long words) refl
+request-long (name ∷ words) = either-long (same name (letters "slot")) _ _ (slot-long words) refl
 
 -- Every line brings 64 arrivals.
 pub slot-arrivals : (line : List ℕ) → length (askedOf line .arrivals) ≡ 64

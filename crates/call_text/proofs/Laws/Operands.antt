@@ -7,12 +7,13 @@ use lib.ListN.{length, getD}
 use borrow.Author.Tests.{not-true, not-false}
 use native.Mathlib.Omega.{arith}
 use Rattle.text.specs.Decimal.{valueOf, isNumber}
-use Rattle.words.specs.Words.{none, alike, operandOf, said}
+use Rattle.line_words.specs.Words.{none, operandOf, said}
+use Rattle.lists.specs.Lists.{same}
 use Rattle.text.specs.Letters.{letters}
 use Rattle.call_text.specs.declared.Call.the-variants.{Admit, Release}
 use Rattle.call_text.specs.declared.Question.the-variants.{Sender, Cells, Bound}
 use Rattle.call_text.specs.declared.Line.the-variants.{Makes, Asks, Malformed}
-use Rattle.call_text.specs.Lines.{numbers, admitOf, releaseOf, senderOf, flowOf}
+use Rattle.call_text.specs.Lines.{numbers, admitLine, releaseLine, senderLine, flowQuestion}
 
 -- The words are numbers within these limits just when b is true, and then they say `values`.
 pub record Said (limits : List ℕ) (words : List (List ℕ)) (b : Bool) (values : List ℕ) : Type 0 where
@@ -76,48 +77,48 @@ module _ (most : ℕ) (g : Bool) (v : ℕ) (rest : List (List ℕ)) where
 
 -- Lines of numbers.
 module _ (words : List (List ℕ)) (b : Bool) where
-  pub admit-malformed : (values : List ℕ) → Said (255 ∷ 255 ∷ 255 ∷ 65535 ∷ []) words b values → not b ≡ true → Malformed ≡ admitOf words
-  unfolding admitOf
+  pub admit-malformed : (values : List ℕ) → Said (255 ∷ 255 ∷ 255 ∷ 65535 ∷ []) words b values → not b ≡ true → Malformed ≡ admitLine words
+  unfolding admitLine
   admit-malformed values s n = rw (s .fits, not-true b n)
 
   pub admit-made : (number entry rate deadline : ℕ) → Said (255 ∷ 255 ∷ 255 ∷ 65535 ∷ []) words b (number ∷ entry ∷ rate ∷ deadline ∷ []) → not b ≡ false
-      → Makes (Admit (record { number = number; entry = entry; rate = rate; deadline = deadline })) ≡ admitOf words
-  unfolding admitOf
+      → Makes (Admit (record { number = number; entry = entry; rate = rate; deadline = deadline })) ≡ admitLine words
+  unfolding admitLine
   admit-made number entry rate deadline s n =
       let t : b ≡ true = not-false b n in
       rw (s .fits, t, s .says t 0 (omega arith), s .says t 1 (omega arith), s .says t 2 (omega arith), s .says t 3 (omega arith))
 
-  pub release-malformed : (values : List ℕ) → Said (255 ∷ []) words b values → not b ≡ true → Malformed ≡ releaseOf words
-  unfolding releaseOf
+  pub release-malformed : (values : List ℕ) → Said (255 ∷ []) words b values → not b ≡ true → Malformed ≡ releaseLine words
+  unfolding releaseLine
   release-malformed values s n = rw (s .fits, not-true b n)
 
-  pub release-made : (number : ℕ) → Said (255 ∷ []) words b (number ∷ []) → not b ≡ false → Makes (Release number) ≡ releaseOf words
-  unfolding releaseOf
+  pub release-made : (number : ℕ) → Said (255 ∷ []) words b (number ∷ []) → not b ≡ false → Makes (Release number) ≡ releaseLine words
+  unfolding releaseLine
   release-made number s n = let t : b ≡ true = not-false b n in rw (s .fits, t, s .says t 0 (omega arith))
 
-  pub sender-malformed : (values : List ℕ) → Said (255 ∷ 4294967295 ∷ []) words b values → not b ≡ true → Malformed ≡ senderOf words
-  unfolding senderOf
+  pub sender-malformed : (values : List ℕ) → Said (255 ∷ 4294967295 ∷ []) words b values → not b ≡ true → Malformed ≡ senderLine words
+  unfolding senderLine
   sender-malformed values s n = rw (s .fits, not-true b n)
 
   pub sender-asked : (parent slot : ℕ) → Said (255 ∷ 4294967295 ∷ []) words b (parent ∷ slot ∷ []) → not b ≡ false
-      → Asks (Sender parent slot) ≡ senderOf words
-  unfolding senderOf
+      → Asks (Sender parent slot) ≡ senderLine words
+  unfolding senderLine
   sender-asked parent slot s n = let t : b ≡ true = not-false b n in rw (s .fits, t, s .says t 0 (omega arith), s .says t 1 (omega arith))
 
 -- A line that asks for something of one flow.
 module _ (name : List ℕ) (words : List (List ℕ)) (b : Bool) (number : ℕ) (s : Said (63 ∷ []) words b (number ∷ [])) where
-  pub flow-malformed : not b ≡ true → Malformed ≡ flowOf name words
-  unfolding flowOf
+  pub flow-malformed : not b ≡ true → Malformed ≡ flowQuestion name words
+  unfolding flowQuestion
   flow-malformed n = rw (s .fits, not-true b n)
 
-  pub cells-asked : not b ≡ false → alike name (letters "cells") ≡ true → Asks (Cells number) ≡ flowOf name words
-  unfolding flowOf
+  pub cells-asked : not b ≡ false → same name (letters "cells") ≡ true → Asks (Cells number) ≡ flowQuestion name words
+  unfolding flowQuestion
   cells-asked n c = let t : b ≡ true = not-false b n in rw (s .fits, t, c, s .says t 0 (omega arith))
 
-  pub bound-asked : not b ≡ false → alike name (letters "cells") ≡ false → alike name (letters "bound") ≡ true → Asks (Bound number) ≡ flowOf name words
-  unfolding flowOf
+  pub bound-asked : not b ≡ false → same name (letters "cells") ≡ false → same name (letters "bound") ≡ true → Asks (Bound number) ≡ flowQuestion name words
+  unfolding flowQuestion
   bound-asked n c d = let t : b ≡ true = not-false b n in rw (s .fits, t, c, d, s .says t 0 (omega arith))
 
-  pub neither-asked : not b ≡ false → alike name (letters "cells") ≡ false → alike name (letters "bound") ≡ false → Malformed ≡ flowOf name words
-  unfolding flowOf
+  pub neither-asked : not b ≡ false → same name (letters "cells") ≡ false → same name (letters "bound") ≡ false → Malformed ≡ flowQuestion name words
+  unfolding flowQuestion
   neither-asked n c d = rw (s .fits, not-false b n, c, d)

@@ -8,20 +8,21 @@ use lib.ListN.{getD, take, drop}
 use borrow.Author.Tests.{not-true, not-false}
 use Rattle.text.specs.Letters.{letters}
 use Rattle.text.specs.Decimal.{valueOf, isNumber}
-use Rattle.words.specs.Words.{wordsOf, alike, operandOf, NextWord}
-use Rattle.words.proofs.Laws.Words.{first-word, no-word}
+use Rattle.line_words.specs.Words.{wordsOf, operandOf, NextWord}
+use Rattle.lists.specs.Lists.{same}
+use Rattle.line_words.proofs.Laws.Words.{first-word, no-word}
 use Rattle.call_text.specs.declared.Call.the-variants.{Slot}
 use Rattle.call_text.specs.declared.Line.the-variants.{PassedOver, Makes, Malformed}
 use Rattle.call_text.specs.declared.Asked.{Asked}
-use Rattle.call_text.specs.Lines.{alone, arrivalsOf, slotWith, slotOf, otherOf, requestOf, askedOf}
+use Rattle.call_text.specs.Lines.{alone, arrivalsOf, slotWith, slotLine, otherOf, requestOf, askedOf}
 
 -- What a slot's number and its counts make.
 abbrev Read : Type 0
 Read = Bool × ℕ × List (List ℕ)
 
 module _ (g : Bool) (t : ℕ) (rest : List (List ℕ)) where
-  pub slot-unnumbered : (words : List (List ℕ)) → (g, t, rest) ≡ operandOf words 4294967295 → not g ≡ true → alone Malformed ≡ slotOf words
-  unfolding operandOf slotOf
+  pub slot-unnumbered : (words : List (List ℕ)) → (g, t, rest) ≡ operandOf words 4294967295 → not g ≡ true → alone Malformed ≡ slotLine words
+  unfolding operandOf slotLine
   slot-unnumbered [] e n = refl
   slot-unnumbered (word ∷ words) e n = go (isNumber word 4294967295) e
     where
@@ -31,8 +32,8 @@ module _ (g : Bool) (t : ℕ) (rest : List (List ℕ)) where
       go false e = refl
 
   slot-numbered : (words : List (List ℕ)) → (g, t, rest) ≡ operandOf words 4294967295 → not g ≡ false
-      → slotWith t (arrivalsOf rest) ≡ slotOf words
-  unfolding operandOf slotOf
+      → slotWith t (arrivalsOf rest) ≡ slotLine words
+  unfolding operandOf slotLine
   slot-numbered [] e n = absurd (true≢false (sym (not-false g n) ∙ ap (λ (x : Read). x .0) e))
   slot-numbered (word ∷ words) e n = go (isNumber word 4294967295) e
     where
@@ -43,12 +44,12 @@ module _ (g : Bool) (t : ℕ) (rest : List (List ℕ)) where
 
   module _ (words : List (List ℕ)) (number : (g, t, rest) ≡ operandOf words 4294967295) (fits : not g ≡ false) (all : Bool) (counts : List ℕ)
       (read : (all, counts) ≡ arrivalsOf rest) where
-    pub slot-refused : not all ≡ true → alone Malformed ≡ slotOf words
+    pub slot-refused : not all ≡ true → alone Malformed ≡ slotLine words
     unfolding slotWith
     slot-refused n =
         ap (λ (b : Bool). slotWith t (b, counts)) (sym (not-true all n)) ∙ ap (λ (x : Bool × List ℕ). slotWith t x) read ∙ slot-numbered words number fits
 
-    pub slot-made : not all ≡ false → _≡_ {A = Asked} (record { line = Makes (Slot t); arrivals = counts }) (slotOf words)
+    pub slot-made : not all ≡ false → _≡_ {A = Asked} (record { line = Makes (Slot t); arrivals = counts }) (slotLine words)
     unfolding slotWith
     slot-made n =
         ap (λ (b : Bool). slotWith t (b, counts)) (sym (not-false all n)) ∙ ap (λ (x : Bool × List ℕ). slotWith t x) read ∙ slot-numbered words number fits
@@ -64,11 +65,11 @@ module _ (line : List ℕ) where
     unfolding askedOf requestOf
     asked-nothing q = rw (remark, no-word line 0 start end w q)
 
-    pub asked-slot : (start ≡ end → ⊥) → alike (take (end - start) (drop start line)) (letters "slot") ≡ true → slotOf (wordsOf (drop end line)) ≡ askedOf line
+    pub asked-slot : (start ≡ end → ⊥) → same (take (end - start) (drop start line)) (letters "slot") ≡ true → slotLine (wordsOf (drop end line)) ≡ askedOf line
     unfolding askedOf requestOf
     asked-slot n e = rw (remark, first-word line 0 start end w n, e)
 
-    pub asked-other : (start ≡ end → ⊥) → alike (take (end - start) (drop start line)) (letters "slot") ≡ false
+    pub asked-other : (start ≡ end → ⊥) → same (take (end - start) (drop start line)) (letters "slot") ≡ false
         → alone (otherOf (take (end - start) (drop start line)) (wordsOf (drop end line))) ≡ askedOf line
     unfolding askedOf requestOf
     asked-other n e = rw (remark, first-word line 0 start end w n, e)

@@ -5,7 +5,7 @@ use borrow.Author.Needs.{needs}
 use borrow.Author.Tests.{not-true, not-false}
 use lib.ListN.{length}
 use native.Mathlib.Omega.{arith}
-use Rattle.words.proofs.Laws.Words.{word-begins}
+use Rattle.line_words.proofs.Laws.Words.{word-begins}
 use Rattle.call_text.proofs.Laws.Arrivals.{Reading, reading-start, reading-end, reading-stopped, reading-more}
 use Rattle.call_text.proofs.read_arrivals.Statement.{statement}
 use Rattle.call_text.proofs.read_arrivals.Tie as tie

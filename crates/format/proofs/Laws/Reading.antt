@@ -11,9 +11,9 @@ use lib.Seq.{length-take-le, take-all, getD-take}
 use borrow.Author.Tests.{lt-ltb, le-ltb, eq-eqb, ne-eqb, ltb-false, eqb-true, eqb-false}
 use native.Mathlib.Decide.{ℕ-discrete}
 use native.Mathlib.Omega.{arith}
-use Rattle.pinwheel.specs.Outcome.{Outcome, accepted, refused}
-use Rattle.pinwheel.proofs.Laws.Choices.{cond-same, passed}
-use Rattle.pinwheel.proofs.Laws.Search.{lt-or-le}
+use Rattle.rulings.specs.Outcome.{Outcome, accepted, refused}
+use Rattle.rulings.proofs.Laws.Choices.{cond-same, passed}
+use Rattle.lists.proofs.Laws.Search.{lt-or-le}
 use Rattle.format.specs.Reading.{Kind, faultOf, ended, readFrom}
 
 -- As many steps as there are bytes are enough from every index on.

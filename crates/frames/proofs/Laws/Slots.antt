@@ -9,13 +9,14 @@ use borrow.Author.Tests.{eq-eqb, ne-eqb, lt-ltb, le-ltb, lt-leb, le-leb}
 use native.Mathlib.Nat.{mod-zero}
 use native.Mathlib.Numerals.{add-one}
 use native.Mathlib.Omega.{arith}
-use Rattle.pinwheel.specs.Search.{any, largest, joined}
+use Rattle.lists.specs.Search.{any}
+use Rattle.lists.specs.Lists.{largest, joined, sumTo}
 use Rattle.pinwheel.specs.Rule.{sends}
-use Rattle.pinwheel.proofs.Laws.Search.{any-hit, any-miss, any-end, any-ext}
-use Rattle.pinwheel.proofs.Laws.Items.{joined-same}
+use Rattle.lists.proofs.Laws.Search.{any-hit, any-miss, any-end, any-ext}
+use Rattle.lists.proofs.Laws.Items.{joined-same}
 use Rattle.site.specs.declared.Site.{Site}
-use Rattle.site.specs.Sites.{used, ofLink}
-use Rattle.site.specs.Reservations.{sumTo}
+use Rattle.site.specs.Sites.{used}
+use Rattle.tree.specs.Tree.{ofLink}
 use Rattle.schedule.specs.Schedule.{gapsFrom, linkSends}
 use Rattle.text.specs.Put.{puts}
 use Rattle.frames.specs.Marks.{frameOf, mark, markIf, marks, idle, idleCount}

@@ -3,8 +3,8 @@ use Prim.Native.Nat.{ℕ, _≤_, _<_}
 use mathlib.Core.Path.{_≡_, refl, sym, _∙_, ap}
 use mathlib.Core.List.{List}
 use lib.ListN.{length}
-use Rattle.site.specs.Tree.{up, route}
-use Rattle.site.proofs.Laws.Tree.{route-up, route-end}
+use Rattle.tree.specs.Tree.{up, route}
+use Rattle.tree.proofs.Laws.Tree.{route-up, route-end}
 use Rattle.text.specs.Put.{puts}
 use Rattle.text.specs.Listed.{each}
 use Rattle.text.proofs.Laws.Put.{puts-long, puts-then}

@@ -6,28 +6,30 @@ use mathlib.Core.List.{List, [], _∷_}
 use lib.ListN.{length, getD}
 use native.Mathlib.Nat.{mul-le-mul-left}
 use native.Mathlib.Omega.{arith}
-use Rattle.pinwheel.specs.Outcome.{Ruling, accepted, refused, Ruled, nothing}
-use Rattle.pinwheel.specs.Search.{total}
+use Rattle.rulings.specs.Outcome.{Ruling, accepted, refused, Ruled, nothing}
+use Rattle.lists.specs.Lists.{total}
 use Rattle.site.specs.declared.Site.{Site}
-use Rattle.site.specs.Sites.{live, ofLink}
-use Rattle.site.specs.Reservations.{gapsJudged, along}
-use Rattle.site.specs.Words.{Leads, root, link}
+use Rattle.site.specs.Sites.{live}
+use Rattle.tree.specs.Tree.{ofLink}
+use Rattle.reservations.specs.Reservations.{periodsJudged, along}
+use Rattle.tree.specs.Words.{Leads, root, link}
 use Rattle.schedule.specs.Schedule.{linkSends}
-use Rattle.limits.specs.Check.{passesOf, flowOf}
-use Rattle.limits.proofs.Laws.{passes-sound, link-once, route-whole}
-use Rattle.limits.proofs.Laws.Flows.{live-few, live-fits}
+use Rattle.site_check.specs.Check.{passesOf, flowOf}
+use Rattle.site_check.proofs.Laws.{passes-sound, link-once, route-whole}
+use Rattle.site_check.proofs.Laws.Flows.{live-few, live-fits}
 use Rattle.counters.specs.Blocks.{cellsOf, zeros}
 use Rattle.queues.specs.Cells.{Hop, Entry, steps, waiting, arrivals, span}
 use Rattle.queues.specs.Pace.{Serves, All, Rising, Within, paced}
 use Rattle.queues.proofs.Laws.Delay.{paced-curve, paced-all, rising-rest, delivered-by, arrivals-kept, waiting-after, waiting-within}
 use Rattle.admission.specs.Calls.{change, admitOf, releaseOf}
 use Rattle.admission.proofs.Laws.{admits-first, releases-first}
-use Rattle.simulation.specs.Hops.{Service, own, hopsAlong, hopsOf}
-use Rattle.simulation.specs.Slot.{recounted, slotOf, startOf}
-use Rattle.simulation.proofs.Laws.{length-along, width-exact, slots-first, starts-first}
+use Rattle.moves.specs.Hops.{Service, own, hopsAlong, hopsOf}
+use Rattle.moves.specs.Moves.{recounted}
+use Rattle.simulation.specs.Slot.{slotOf, startOf}
+use Rattle.moves.proofs.Laws.{length-along, width-exact}
+use Rattle.simulation.proofs.Laws.{slots-first, starts-first}
 use Rattle.guarantee.specs.Runs.{Call, slot, admit, release, start, State, Promise, checksOf, Log, Run, none, then}
-use Rattle.guarantee.specs.Demand.{entered, slotsOf, Stays, NoStart, rateOf, deadlineOf, boundOf, Begins, Allowed}
-use Rattle.guarantee.specs.Demand.{Answered, WaitsJoined, Waits, Kept}
+use Rattle.guarantee.specs.Demand.{entered, slotsOf, Stays, NoStart, rateOf, deadlineOf, boundOf, Begins, Allowed, Answered, WaitsJoined, Waits, Kept}
 use Rattle.guarantee.proofs.Laws.Frame.{Steady, Same, left}
 
 -- The newest call of a list adds its slot to those before it.
@@ -162,7 +164,7 @@ module _ (v : Service) (w : Steady v) (f : ℕ) (few : f < 64) (σ₀ : State) (
 
 -- The site's own schedule goes by its links.
 pub own-steady : Steady own
-unfolding linkSends gapsJudged
+unfolding linkSends periodsJudged
 own-steady = record { same = λ s n state entry rate deadline. refl }
 
 pub span-along : (s : Site) (rate : ℕ) (ms : List ℕ) → span (hopsAlong (own s rate) ms) ≡ along (s .periods) ms

@@ -1,21 +1,22 @@
 -- What a call leaves of a flow that it does not end: its place in the site, and cells that went through the slot, if the call was an accepted one.
 use Prim.Native.Nat.{ℕ, _≤_, _<_}
 use mathlib.Core.Path.{_≡_, refl, sym, _∙_, ap}
-use mathlib.Core.Bool.{true, false, false≢true}
+use mathlib.Core.Bool.{true, false≢true}
 use mathlib.Core.List.{List, []}
 use lib.ListN.{length, getD, set}
 use lib.Seq.{getD-set-other}
-use Rattle.pinwheel.specs.Outcome.{Ruling, accepted, refused}
+use Rattle.rulings.specs.Outcome.{Ruling, accepted, refused}
 use Rattle.site.specs.declared.Site.{Site}
 use Rattle.site.specs.declared.Flow.{Flow}
 use Rattle.site.specs.Sites.{live, withFields, withFlow, withoutFlow}
-use Rattle.site.specs.Reservations.{routeOf}
+use Rattle.reservations.specs.Reservations.{routeOf}
 use Rattle.counters.specs.Blocks.{cellsOf, withCells, zeros}
 use Rattle.queues.specs.Cells.{steps}
 use Rattle.admission.proofs.Laws.{admit-accepted, admit-refused, release-accepted, release-refused, cells-after}
-use Rattle.simulation.specs.Hops.{Service, hopsOf}
-use Rattle.simulation.specs.Slot.{cellsAfter}
-use Rattle.simulation.proofs.Laws.{slot-accepted, slot-refused, slot-cells, start-refused}
+use Rattle.moves.specs.Hops.{Service, hopsOf}
+use Rattle.moves.specs.Moves.{cellsAfter}
+use Rattle.simulation.proofs.Laws.{slot-accepted, slot-refused, start-refused}
+use Rattle.moves.proofs.Laws.{slot-cells}
 use Rattle.guarantee.specs.Runs.{Call, slot, admit, release, start, State, Promise}
 use Rattle.guarantee.specs.Demand.{entered, Stays, NoStart, rateOf, deadlineOf}
 

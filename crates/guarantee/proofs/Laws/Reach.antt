@@ -7,18 +7,18 @@ use lib.ListN.{length, getD, set, replicate}
 use lib.Seq.{set-set, set-getD}
 use native.Mathlib.Numerals.{add-one}
 use native.Mathlib.Omega.{arith}
-use Rattle.pinwheel.specs.Outcome.{accepted}
+use Rattle.rulings.specs.Outcome.{accepted}
 use Rattle.site.specs.declared.Site.{Site}
 use Rattle.site.specs.Sites.{live, withFlows, withoutFlow}
-use Rattle.limits.specs.Check.{flowOf, passesOf}
-use Rattle.limits.specs.Words.{Shape}
-use Rattle.limits.proofs.Laws.{passes-sound, flow-taken}
-use Rattle.limits.proofs.Laws.Flows.{without-none}
+use Rattle.site_check.specs.Check.{flowOf, passesOf}
+use Rattle.site_check.specs.Words.{Shape}
+use Rattle.site_check.proofs.Laws.{passes-sound, flow-taken}
+use Rattle.site_check.proofs.Laws.Flows.{without-none}
 use Rattle.plan.proofs.Laws.Lists.{upto, upto-below, upto-above, upto-zeros, upto-more, upto-full}
 use Rattle.counters.specs.Blocks.{withCells, zeros}
 use Rattle.admission.specs.Calls.{admitOf}
 use Rattle.admission.proofs.Laws.{releases-when, cells-after, released-again}
-use Rattle.simulation.specs.Hops.{Service}
+use Rattle.moves.specs.Hops.{Service}
 use Rattle.guarantee.specs.Runs.{admit, State, Promise, Run, none, then, admissions}
 use Rattle.guarantee.specs.Words.{nodesAlone}
 

@@ -10,10 +10,10 @@ use borrow.Author.Tests.{lt-ltb, le-ltb, eq-eqb, ne-eqb, eqb-false, ltb-false}
 use native.Mathlib.Decide.{ℕ-discrete}
 use native.Mathlib.Omega.{arith}
 use Rattle.pinwheel.specs.Rule.{base, periodsOf, offsetsOf}
-use Rattle.pinwheel.specs.Outcome.{Outcome, accepted, refused}
-use Rattle.pinwheel.specs.Deal.{badGap, firstBad, dealt}
+use Rattle.rulings.specs.Outcome.{Outcome, accepted, refused}
+use Rattle.pinwheel.specs.Assign.{badGap, firstBad, assigned}
 use Rattle.pinwheel.specs.Words.{InLimits, Good}
-use Rattle.pinwheel.proofs.Laws.Search.{lt-or-le, first-before, first-passes}
+use Rattle.lists.proofs.Laws.Search.{lt-or-le, first-before, first-passes}
 
 -- A gap before the first bad one is within its limits, and the first bad one is not.
 pub gap-limits : (gaps : List ℕ) (i : ℕ) → i < firstBad gaps → InLimits (getD gaps i 0)
@@ -31,29 +31,29 @@ bad-limits gaps l (a, b) =
     false≢true (sym (simp (ne-eqb _ _ n, le-ltb _ _ b)) ∙ first-passes (badGap gaps) (length gaps) 0 (omega arith))
 
 module _ (f : ℕ) (gaps offsets periods : List ℕ) where
-  pub refuse-offsets : (length offsets ≡ length gaps → ⊥) → (refused 1 0, offsets, periods) ≡ dealt f gaps offsets periods
-  unfolding dealt
+  pub refuse-offsets : (length offsets ≡ length gaps → ⊥) → (refused 1 0, offsets, periods) ≡ assigned f gaps offsets periods
+  unfolding assigned
   refuse-offsets n = simp (ne-eqb _ _ n)
 
   pub refuse-periods : length offsets ≡ length gaps → (length periods ≡ length gaps → ⊥)
-      → (refused 1 0, offsets, periods) ≡ dealt f gaps offsets periods
-  unfolding dealt
+      → (refused 1 0, offsets, periods) ≡ assigned f gaps offsets periods
+  unfolding assigned
   refuse-periods e n = simp (eq-eqb _ _ e, ne-eqb _ _ n)
 
   pub refuse-none : length offsets ≡ length gaps → length periods ≡ length gaps → length gaps ≡ 0
-      → (refused 5 0, offsets, periods) ≡ dealt f gaps offsets periods
-  unfolding dealt
+      → (refused 5 0, offsets, periods) ≡ assigned f gaps offsets periods
+  unfolding assigned
   refuse-none e q z = simp (eq-eqb _ _ e, eq-eqb _ _ q, eq-eqb _ _ z)
 
   pub refuse-many : length offsets ≡ length gaps → length periods ≡ length gaps → 63 < length gaps
-      → (refused 5 0, offsets, periods) ≡ dealt f gaps offsets periods
-  unfolding dealt
+      → (refused 5 0, offsets, periods) ≡ assigned f gaps offsets periods
+  unfolding assigned
   refuse-many e q l = let n : length gaps ≡ 0 → ⊥ = omega arith in simp (eq-eqb _ _ e, eq-eqb _ _ q, ne-eqb _ _ n, lt-ltb _ _ l)
 
   pub refuse-gap : length offsets ≡ length gaps → length periods ≡ length gaps → (length gaps ≡ 0 → ⊥) → length gaps ≤ 63 → (bad : ℕ)
       → bad ≡ firstBad gaps → bad < length gaps
-      → (refused 5 bad, offsets, periods) ≡ dealt f gaps offsets periods
-  unfolding dealt
+      → (refused 5 bad, offsets, periods) ≡ assigned f gaps offsets periods
+  unfolding assigned
   refuse-gap e q n m bad b l = rw b (simp (eq-eqb _ _ e, eq-eqb _ _ q, ne-eqb _ _ n, le-ltb _ _ m, lt-ltb _ _ (rw b at l)))
 
   no-bad : ((i : ℕ) → i < length gaps → InLimits (getD gaps i 0))
@@ -63,30 +63,30 @@ module _ (f : ℕ) (gaps offsets periods : List ℕ) where
   no-bad each (inr m) = m
 
   -- Lists that pass: only the base is left to judge.
-  pub good-dealt : Good gaps offsets periods
-      → dealt f gaps offsets periods ≡ cond (eqb (base f gaps) 0) (refused 11 0, offsets, periods) (accepted (base f gaps), offsetsOf f gaps, periodsOf f gaps)
-  unfolding dealt
-  good-dealt g =
+  pub good-assigned : Good gaps offsets periods
+      → assigned f gaps offsets periods ≡ cond (eqb (base f gaps) 0) (refused 11 0, offsets, periods) (accepted (base f gaps), offsetsOf f gaps, periodsOf f gaps)
+  unfolding assigned
+  good-assigned g =
       let m : length gaps ≤ firstBad gaps = no-bad (g .limits) (lt-or-le (firstBad gaps) (length gaps)) in
       let n : length gaps ≡ 0 → ⊥ = omega (arith, g .some) in
       simp (eq-eqb _ _ (g .offsets-long), eq-eqb _ _ (g .periods-long), ne-eqb _ _ n, le-ltb _ _ (g .few), le-ltb _ _ m)
 
-  pub refuse-crowded : Good gaps offsets periods → base f gaps ≡ 0 → (refused 11 0, offsets, periods) ≡ dealt f gaps offsets periods
-  refuse-crowded g z = sym (good-dealt g ∙ simp (eq-eqb _ _ z))
+  pub refuse-crowded : Good gaps offsets periods → base f gaps ≡ 0 → (refused 11 0, offsets, periods) ≡ assigned f gaps offsets periods
+  refuse-crowded g z = sym (good-assigned g ∙ simp (eq-eqb _ _ z))
 
   pub accept : Good gaps offsets periods → 1 ≤ base f gaps → (b : ℕ) (os ps : List ℕ) → b ≡ base f gaps → os ≡ offsetsOf f gaps
       → ps ≡ periodsOf f gaps
-      → (accepted b, os, ps) ≡ dealt f gaps offsets periods
-  accept g h b os ps e o p = let n : base f gaps ≡ 0 → ⊥ = omega arith in rw (e, o, p) (sym (good-dealt g ∙ simp (ne-eqb _ _ n)))
+      → (accepted b, os, ps) ≡ assigned f gaps offsets periods
+  accept g h b os ps e o p = let n : base f gaps ≡ 0 → ⊥ = omega arith in rw (e, o, p) (sym (good-assigned g ∙ simp (ne-eqb _ _ n)))
 
   -- The other way round: what is refused neither by 1 nor by 5 is as they ask.
-  pub passed-good : ((place : ℕ) → dealt f gaps offsets periods .0 ≡ refused 1 place → ⊥)
-      → ((place : ℕ) → dealt f gaps offsets periods .0 ≡ refused 5 place → ⊥)
+  pub passed-good : ((place : ℕ) → assigned f gaps offsets periods .0 ≡ refused 1 place → ⊥)
+      → ((place : ℕ) → assigned f gaps offsets periods .0 ≡ refused 5 place → ⊥)
       → Good gaps offsets periods
   passed-good one five = offsets-same (ℕ-discrete (length offsets) (length gaps))
     where
-      told : (number place : ℕ) → (refused number place, offsets, periods) ≡ dealt f gaps offsets periods
-          → dealt f gaps offsets periods .0 ≡ refused number place
+      told : (number place : ℕ) → (refused number place, offsets, periods) ≡ assigned f gaps offsets periods
+          → assigned f gaps offsets periods .0 ≡ refused number place
       told number place q = sym (ap (λ (r : Outcome ℕ × List ℕ × List ℕ). r .0) q)
 
       in-limits : length offsets ≡ length gaps → length periods ≡ length gaps → (length gaps ≡ 0 → ⊥) → length gaps ≤ 63

@@ -6,19 +6,19 @@ use mathlib.Core.Logic.{_↔_}
 use lib.ListN.{length, length-append}
 use lib.Seq.{take-at, getD-append-seam}
 use native.Mathlib.Omega.{arith}
-use Rattle.pinwheel.specs.Outcome.{Outcome, accepted, refused}
-use Rattle.pinwheel.proofs.Laws.Outcomes.{refused-not}
+use Rattle.rulings.specs.Outcome.{Outcome, accepted, refused}
+use Rattle.rulings.proofs.Laws.Outcomes.{refused-not}
 use Rattle.site.specs.declared.Site.{Site}
 use Rattle.site.specs.Sites.{live, withSchedule}
 use Rattle.schedule.specs.Schedule.{scheduled}
-use Rattle.schedule.specs.Judge.{judgeOf}
-use Rattle.schedule.proofs.Laws.{judge-gives, judge-numbers}
-use Rattle.schedule.proofs.Laws.Judge.{judge-bare}
-use Rattle.limits.specs.Words.{Formed}
+use Rattle.judgement.specs.Judge.{judgeOf}
+use Rattle.judgement.proofs.Laws.{judge-gives, judge-numbers}
+use Rattle.judgement.proofs.Laws.Judge.{judge-bare}
+use Rattle.site_check.specs.Words.{Formed}
 use Rattle.format.specs.Words.{Bytes}
-use Rattle.reader.specs.Read.{plans, decode, judgeForm, readOf}
+use Rattle.plan_reader.specs.Read.{plans, decode, judgeForm, readOf}
 use Rattle.format.proofs.Laws.Reading.{read-end, ended-last}
-use Rattle.writer.specs.Write.{nodeBytes, flowBytes, flowIfLive, commandBytes, planBytes}
+use Rattle.plan_writer.specs.Write.{nodeBytes, flowBytes, flowIfLive, commandBytes, planBytes}
 use Rattle.plan.specs.Words.{InForm}
 use Rattle.plan.proofs.Laws.FromSites.{zeros, begun-read}
 use Rattle.plan.proofs.Laws.Refusals.{decode-form, decode-fails, form-numbers}

@@ -8,18 +8,20 @@ use lib.Seq.{getD-set-same, getD-set-other}
 use borrow.Author.Tests.{eq-eqb, eqb-true}
 use native.Mathlib.Decide.{ℕ-discrete}
 use native.Mathlib.Omega.{arith}
-use Rattle.pinwheel.specs.Search.{first}
-use Rattle.pinwheel.proofs.Laws.Search.{lt-or-le}
+use Rattle.lists.specs.Search.{first}
+use Rattle.lists.proofs.Laws.Search.{lt-or-le}
 use Rattle.site.specs.declared.Site.{Site}
 use Rattle.site.specs.declared.Flow.{Flow}
 use Rattle.site.specs.Sites.{emptySite, live, withFlow}
-use Rattle.site.specs.Tree.{up}
+use Rattle.tree.specs.Tree.{up}
 use Rattle.limits.specs.declared.Node.{Node}
-use Rattle.limits.specs.Check.{shaped, nodeOf, flowOf, illNode, illFlow, firstIllNode, firstIllFlow, formed}
-use Rattle.limits.specs.Words.{Shape, NodeGood, IdleAt, Formed, Unscheduled}
-use Rattle.limits.proofs.Laws.Forms.{formed-when, linkless-idle, good-same, good-wider, flow-good, flow-new, flow-old, flow-formed}
-use Rattle.reader.specs.Read.{Draft, nodeFault, flowFault, withNode, nodeAdded, flowAdded, blank}
-use Rattle.reader.proofs.Laws.Commands.{node-passed}
+use Rattle.site_check.specs.Check.{shaped, nodeOf, flowOf, illNode, illFlow, firstIllNode, firstIllFlow, formed}
+use Rattle.site_check.specs.Words.{Shape, IdleAt, Formed, Unscheduled}
+use Rattle.limits.specs.Words.{NodeGood}
+use Rattle.site_check.proofs.Laws.Forms.{formed-when, linkless-idle, flow-new, flow-old, flow-formed}
+use Rattle.limits.proofs.Laws.Forms.{good-same, good-wider, flow-good}
+use Rattle.plan_reader.specs.Read.{Draft, nodeFault, flowFault, withNode, nodeAdded, flowAdded, blank}
+use Rattle.plan_reader.proofs.Laws.Commands.{node-passed}
 
 -- `next` is one above the highest number of a live flow, and 0 where no flow is live.
 pub record NextOf (s : Site) (next : ℕ) : Type 0 where

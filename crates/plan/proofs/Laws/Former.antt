@@ -10,29 +10,31 @@ use borrow.Author.Tests.{ltb-false, le-ltb, leb-false, lt-leb}
 use native.Mathlib.Numerals.{add-one}
 use native.Mathlib.Nat.{mul-le-mul-left}
 use native.Mathlib.Omega.{arith}
-use Rattle.pinwheel.specs.Outcome.{Outcome, accepted, refused}
-use Rattle.pinwheel.proofs.Laws.Outcomes.{past, refused-not}
-use Rattle.pinwheel.proofs.Laws.Search.{first-none}
+use Rattle.rulings.specs.Outcome.{Outcome, accepted, refused}
+use Rattle.rulings.proofs.Laws.Outcomes.{past, refused-not}
+use Rattle.lists.proofs.Laws.Search.{first-none}
 use Rattle.site.specs.declared.Site.{Site}
-use Rattle.site.specs.Sites.{used, ofLink, live, withSchedule}
-use Rattle.site.specs.Tree.{has}
-use Rattle.site.specs.Reservations.{gapsJudged, routeOf, widthAt, widthOn, sumTo, load, firstOver, along, firstLate}
-use Rattle.site.specs.Words.{Carried, Punctual}
-use Rattle.schedule.specs.Schedule.{gapsUnder, rank, dealtUnder, baseUnder, crowded, firstCrowded, entryDealt, offsetsDealt, periodsDealt, scheduled}
-use Rattle.schedule.specs.Judge.{reserved, judgeOf}
+use Rattle.site.specs.Sites.{used, live, withSchedule}
+use Rattle.tree.specs.Tree.{ofLink, has}
+use Rattle.reservations.specs.Reservations.{periodsJudged, routeOf, widthAt, widthOn, load, firstOver, along, firstLate}
+use Rattle.lists.specs.Lists.{sumTo}
+use Rattle.reservations.specs.Words.{Carried, Punctual}
+use Rattle.schedule.specs.Schedule.{gapsUnder, rank, assignedUnder, baseUnder, crowded, firstCrowded, entryAssigned, offsetsAssigned, periodsAssigned, scheduled}
+use Rattle.judgement.specs.Judge.{reserved, judgeOf}
 use Rattle.schedule.specs.Words.{Wellgapped, Served, Timed}
 use Rattle.schedule.proofs.Laws.{period-within, bound-within}
-use Rattle.schedule.proofs.Laws.Judge.{scheduled-bare, served-when}
-use Rattle.limits.specs.Check.{nodeOf, flowOf}
-use Rattle.limits.specs.Words.{Formed}
-use Rattle.limits.proofs.Laws.Forms.{formed-gapped}
-use Rattle.limits.proofs.Laws.Flows.{live-fits}
+use Rattle.judgement.proofs.Laws.Judge.{scheduled-bare}
+use Rattle.schedule.proofs.Laws.Crowded.{served-when}
+use Rattle.site_check.specs.Check.{nodeOf, flowOf}
+use Rattle.site_check.specs.Words.{Formed}
+use Rattle.site_check.proofs.Laws.Forms.{formed-gapped}
+use Rattle.site_check.proofs.Laws.Flows.{live-fits}
 use Rattle.format.specs.Words.{Bytes}
-use Rattle.reader.specs.Read.{decode}
-use Rattle.writer.specs.Write.{planBytes}
+use Rattle.plan_reader.specs.Read.{decode}
+use Rattle.plan_writer.specs.Write.{planBytes}
 use Rattle.plan.specs.Words.{InForm}
-use Rattle.plan.specs.Former.{formerWidth, formerLoad, formerOver, firstFormerOver, formerLate, firstFormerLate, formerReserved, formerJudgeOf, formerForm, formerRead}
-use Rattle.plan.specs.Former.{FormerlyCarried, FormerlyPunctual}
+use Rattle.plan.specs.Former.{formerWidth, formerLoad, formerOver, firstFormerOver, formerLate, firstFormerLate, formerReserved, formerJudgeOf}
+use Rattle.plan.specs.Former.{formerForm, formerRead, FormerlyCarried, FormerlyPunctual}
 use Rattle.plan.proofs.Laws.Refusals.{decode-form}
 use Rattle.plan.proofs.Laws.Acceptance.{decode-plan}
 
@@ -84,7 +86,7 @@ module _ (s : Site) (g : Formed s) where
 
 -- With its own schedule a site in form is one that the laws of the schedule speak of.
 scheduled-timed : (s : Site) → Formed s → Served s → Timed (scheduled s)
-unfolding scheduled withSchedule gapsUnder rank dealtUnder entryDealt offsetsDealt periodsDealt nodeOf
+unfolding scheduled withSchedule gapsUnder rank assignedUnder entryAssigned offsetsAssigned periodsAssigned nodeOf
 scheduled-timed s g served = record {
   few = g .few;
   gapped = record { limits = formed-gapped s g .limits };
@@ -102,10 +104,10 @@ sum-rises f h (suc k) w = omega (arith, w k, sum-rises f h k w)
 
 module _ (s : Site) (g : Formed s) (served : Served s) where
   width-shrinks : (m n : ℕ) → 1 ≤ m → m ≤ s .links → widthOn (scheduled s) m n ≤ formerWidth s m n
-  unfolding widthOn formerWidth widthAt gapsJudged scheduled withSchedule live routeOf
+  unfolding widthOn formerWidth widthAt periodsJudged scheduled withSchedule live routeOf
   width-shrinks m n o l = go (live s n && has m (routeOf s n))
     where
-      go : (b : Bool) → cond b (getD (s .rates) n 0 * ofLink (periodsDealt s) m) 0 ≤ cond b (getD (s .rates) n 0 * ofLink (s .gaps) m) 0
+      go : (b : Bool) → cond b (getD (s .rates) n 0 * ofLink (periodsAssigned s) m) 0 ≤ cond b (getD (s .rates) n 0 * ofLink (s .gaps) m) 0
       go true = mul-le-mul-left (getD (s .rates) n 0) (period-within (scheduled s) (scheduled-timed s g served) m o l .1)
       go false = omega arith
 
@@ -123,7 +125,7 @@ module _ (s : Site) (g : Formed s) (served : Served s) where
 
 -- What comes in as a schedule played no part.
 former-bare : (s : Site) (os ps : List ℕ) → formerJudgeOf (withSchedule s os ps) ≡ formerJudgeOf s
-unfolding formerJudgeOf withSchedule firstCrowded crowded baseUnder dealtUnder gapsUnder
+unfolding formerJudgeOf withSchedule firstCrowded crowded baseUnder assignedUnder gapsUnder
 former-bare s os ps = rw (scheduled-bare s os ps)
 
 -- A former reading in its two steps, as `read-plan` and `read-form` have those of a reading now.

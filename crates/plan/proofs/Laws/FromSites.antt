@@ -12,26 +12,25 @@ use native.Mathlib.Nat.{eq-or-lt-of-le}
 use native.Mathlib.Omega.{arith}
 use Rattle.site.specs.declared.Site.{Site}
 use Rattle.site.specs.Sites.{emptySite, live, withFlow, withSchedule}
-use Rattle.site.specs.Tree.{up}
-use Rattle.site.proofs.Laws.Tree.{up-in}
+use Rattle.tree.specs.Tree.{up}
+use Rattle.tree.proofs.Laws.Tree.{up-in}
 use Rattle.format.specs.Bytes.{numberAt, bytesOf}
-use Rattle.reader.specs.Read.{Draft, nodeAt, flowAt, nodeFault, flowFault, withNode, nodeAdded, flowAdded, decode}
-use Rattle.limits.specs.Check.{nodeOf, flowOf}
-use Rattle.writer.specs.Write.{nodeBytes, flowBytes, flowIfLive, commandBytes}
-use Rattle.pinwheel.specs.Search.{joined}
-use Rattle.limits.specs.Words.{NodeGood, IdleAt, LiveAt, Formed}
+use Rattle.plan_reader.specs.Read.{Draft, nodeAt, flowAt, nodeFault, flowFault, withNode, nodeAdded, flowAdded, decode, laterFault, after, plans}
+use Rattle.site_check.specs.Check.{nodeOf, flowOf}
+use Rattle.plan_writer.specs.Write.{nodeBytes, flowBytes, flowIfLive, commandBytes}
+use Rattle.lists.specs.Lists.{joined}
+use Rattle.limits.specs.Words.{NodeGood}
+use Rattle.site_check.specs.Words.{IdleAt, LiveAt, Formed}
 use Rattle.plan.proofs.Laws.Drafts.{NextOf}
 use Rattle.plan.proofs.Laws.Lists.{upto, upto-long, upto-below, upto-zeros, upto-more, upto-skip, upto-all, upto-full}
-use Rattle.format.proofs.Laws.{number-bytes, byte-at, head-at, left-at, left-long}
-use Rattle.limits.proofs.Laws.Flows.{live-few}
+use Rattle.format.proofs.Laws.{number-bytes, byte-at, head-at, left-at, left-long, node-some, flow-some}
+use Rattle.site_check.proofs.Laws.Flows.{live-few}
 use Rattle.limits.proofs.Laws.Forms.{node-good, flow-good, good-same, good-wider}
-use Rattle.reader.specs.Read.{laterFault, after, plans}
 use Rattle.format.specs.Commands.{sizeOf}
-use Rattle.format.proofs.Laws.{node-some, flow-some}
 use Rattle.format.specs.Reading.{faultOf}
 use Rattle.format.proofs.Laws.Reading.{readOn, read-go}
-use Rattle.reader.proofs.Laws.Decode.{decode-start}
-use Rattle.writer.proofs.Laws.Write.{node-size, flow-size, live-bytes, idle-bytes}
+use Rattle.plan_reader.proofs.Laws.Decode.{decode-start}
+use Rattle.plan_writer.proofs.Laws.Write.{node-size, flow-size, live-bytes, idle-bytes}
 
 -- No offsets, and no periods.
 abbrev pub zeros : List ℕ

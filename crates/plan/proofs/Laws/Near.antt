@@ -8,20 +8,21 @@ use lib.ListN.{length, length-append}
 use lib.Seq.{length-take-le}
 use borrow.Author.Tests.{ltb-true, leb-true, eqb-false}
 use native.Mathlib.Omega.{arith}
-use Rattle.pinwheel.specs.Outcome.{Outcome, accepted, refused, checked}
-use Rattle.pinwheel.proofs.Laws.Outcomes.{refused-not}
+use Rattle.rulings.specs.Outcome.{Outcome, accepted, refused, checked}
+use Rattle.rulings.proofs.Laws.Outcomes.{refused-not}
 use Rattle.site.specs.declared.Site.{Site}
 use Rattle.site.specs.Sites.{used}
-use Rattle.site.specs.Reservations.{firstOver, firstLate}
+use Rattle.reservations.specs.Reservations.{firstOver, firstLate}
 use Rattle.schedule.specs.Schedule.{firstCrowded, scheduled}
-use Rattle.schedule.specs.Judge.{reserved, judgeOf}
+use Rattle.judgement.specs.Judge.{reserved, judgeOf}
 use Rattle.format.specs.Commands.{sizeOf, scheduleSize}
 use Rattle.format.specs.Words.{Bytes}
-use Rattle.reader.specs.Read.{decode, judgeForm, readOf}
-use Rattle.writer.specs.Write.{commandBytes, planBytes}
-use Rattle.schedule_file.specs.declared.Schedule.{Schedule}
-use Rattle.schedule_file.specs.Read.{scheduleRead}
-use Rattle.writer.proofs.Laws.Write.{plan-size, nodes-few, flows-few, links-size, links-few}
+use Rattle.plan_reader.specs.Read.{decode, judgeForm, readOf}
+use Rattle.plan_writer.specs.Write.{commandBytes, planBytes}
+use Rattle.schedule_check.specs.declared.Schedule.{Schedule}
+use Rattle.schedule_reader.specs.Read.{scheduleRead}
+use Rattle.plan_writer.proofs.Laws.Write.{plan-size, nodes-few, flows-few}
+use Rattle.schedule_writer.proofs.Laws.Write.{links-size, links-few}
 use Rattle.plan.specs.Words.{Begun, FormFails, no-end, command, more}
 use Rattle.plan.specs.ScheduleWords.{ScheduleBegun, ScheduleFails}
 use Rattle.plan.proofs.Laws.Faults.{first-numbers}

@@ -5,14 +5,14 @@ use mathlib.Core.List.{List, [], _∷_}
 use mathlib.Core.Logic.{_↔_}
 use lib.ListN.{drop, take-append-drop}
 use native.Mathlib.Omega.{arith}
-use Rattle.pinwheel.specs.Outcome.{accepted, refused}
+use Rattle.rulings.specs.Outcome.{accepted, refused}
 use Rattle.site.specs.declared.Site.{Site}
 use Rattle.site.specs.Sites.{withSchedule}
-use Rattle.limits.specs.Words.{Unscheduled}
+use Rattle.site_check.specs.Words.{Unscheduled}
 use Rattle.format.specs.Words.{Bytes}
 use Rattle.format.proofs.Laws.Reading.{readOn, Stop}
-use Rattle.reader.specs.Read.{Draft, plans, decode}
-use Rattle.writer.specs.Write.{planBytes}
+use Rattle.plan_reader.specs.Read.{Draft, plans, decode}
+use Rattle.plan_writer.specs.Write.{planBytes}
 use Rattle.plan.specs.Words.{InForm, Begun, commandChecks, FormFails, no-end, command, more}
 use Rattle.plan.proofs.Laws.Drafts.{NextOf, drafted-next}
 use Rattle.plan.proofs.Laws.FromBytes.{Reached, reached-begun, stops}

@@ -7,25 +7,26 @@ use mathlib.Core.Logic.{⊎-elim}
 use lib.ListN.{length, getD, List·getD-eq-default}
 use native.Mathlib.Nat.{mod-lt}
 use native.Mathlib.Omega.{arith}
-use Rattle.pinwheel.proofs.Laws.Search.{lt-or-le}
+use Rattle.lists.proofs.Laws.Search.{lt-or-le}
 use Rattle.site.specs.declared.Site.{Site}
-use Rattle.site.specs.Sites.{used, ofLink, withSchedule}
-use Rattle.schedule.specs.Schedule.{offsetsDealt, periodsDealt, scheduled}
+use Rattle.site.specs.Sites.{used, withSchedule}
+use Rattle.tree.specs.Tree.{ofLink}
+use Rattle.schedule.specs.Schedule.{offsetsAssigned, periodsAssigned, scheduled}
 use Rattle.schedule.proofs.Laws.Schedule.{entry-unused}
 use Rattle.schedule.proofs.Laws.Slots.{sends-in}
-use Rattle.limits.specs.Check.{nodeOf, passesOf}
-use Rattle.limits.specs.Words.{Formed}
-use Rattle.limits.proofs.Laws.{link-once, period-within}
-use Rattle.limits.proofs.Laws.Passing.{passes-parts}
-use Rattle.schedule_file.specs.Words.{SlotsWithin, NoLink, Listed}
-use Rattle.writer.specs.Write.{scheduleOf}
+use Rattle.site_check.specs.Check.{nodeOf, passesOf}
+use Rattle.site_check.specs.Words.{Formed}
+use Rattle.site_check.proofs.Laws.{link-once, period-within}
+use Rattle.site_check.proofs.Laws.Passing.{passes-parts}
+use Rattle.schedule_check.specs.Words.{SlotsWithin, NoLink, Listed}
+use Rattle.schedule_writer.specs.Write.{scheduleOf}
 
 module _ (s : Site) (e : passesOf s ≡ true) where
   formed : Formed s
   formed = passes-parts s .0 e .0
 
   -- The lists are those of the slot rule.
-  own : (s .offsets ≡ offsetsDealt s) × (s .periods ≡ periodsDealt s)
+  own : (s .offsets ≡ offsetsAssigned s) × (s .periods ≡ periodsAssigned s)
   unfolding scheduled withSchedule
   own = let w = passes-parts s .0 e .2 in (ap (λ (t : Site). t .offsets) w, ap (λ (t : Site). t .periods) w)
 

@@ -2,7 +2,7 @@
 use borrow.Author.Needs.{needs}
 use native.Mathlib.Omega.{arith}
 use Rattle.format.specs.Words.{Bytes}
-use Rattle.report.proofs.Laws.Short.{listing-short}
+use Rattle.plan_listing.proofs.Laws.Short.{listing-short}
 use Rattle.printing.proofs.Laws.{whole-taken}
 use Rattle.printing.proofs.print_listing.Statement.{statement}
 use Rattle.printing.proofs.print_listing.Tie as tie

@@ -2,7 +2,7 @@
 use borrow.Author.Needs.{needs}
 use native.Mathlib.Omega.{arith}
 use Rattle.format.specs.Words.{Bytes}
-use Rattle.report.proofs.Laws.Short.{schedule-report-short}
+use Rattle.schedule_report.proofs.Laws.Short.{schedule-report-short}
 use Rattle.printing.proofs.Laws.{whole-taken}
 use Rattle.printing.proofs.print_schedule.Statement.{statement}
 use Rattle.printing.proofs.print_schedule.Tie as tie

@@ -1,6 +1,6 @@
 -- Right because each case hands over its own number of bytes.
 use borrow.Author.Needs.{needs}
-use Rattle.printing.specs.Inner.{taken}
+use Rattle.printing.specs.Inner.{frontTaken}
 use Rattle.printing.proofs.print_written.Statement.{statement}
 use Rattle.printing.proofs.print_written.Tie as tie
 
@@ -14,11 +14,11 @@ enum-told : tie.Need-enum-told
 enum-told c = search needs
 
 returns : tie.Need-returns
-unfolding taken
+unfolding frontTaken
 returns c = rw (c .before .before .written .given .1) (c .print-front .ensures)
 
 returns-2 : tie.Need-returns-2
-unfolding taken
+unfolding frontTaken
 returns-2 c = rw (c .enum-told .given .1)
 
 pub print-written-spec : {M : Type 1} → statement M

@@ -1,11 +1,11 @@
 -- What a slot does to the number of cells, to their sum and to the last of them.
-use Prim.Native.Nat.{ℕ, zero, suc, _+_, _-_, _≤_, _<_, min}
+use Prim.Native.Nat.{ℕ, zero, suc, _+_, _≤_, _<_, min}
 use mathlib.Core.Path.{_≡_, refl, _∙_, ap}
 use mathlib.Core.Bool.{Bool, true, false, cond}
 use mathlib.Core.List.{List, [], _∷_}
 use lib.ListN.{length, getD, take, set}
 use native.Mathlib.Omega.{arith}
-use Rattle.pinwheel.specs.Search.{total}
+use Rattle.lists.specs.Lists.{total}
 use Rattle.counters.specs.Blocks.{zeros}
 use Rattle.queues.specs.Cells.{Hop, Entry, moved, arrived, delivering, passed, step, steps, waiting, delivered, arrivals}
 

@@ -8,8 +8,8 @@ use lib.ListN.{length, drop}
 use lib.Seq.{drop-drop, drop-nil}
 use native.Mathlib.Nat.{mul-le-mul-left, add-zero, add-suc, add-assoc, zero-add}
 use native.Mathlib.Omega.{arith}
-use Rattle.pinwheel.specs.Search.{total}
-use Rattle.pinwheel.proofs.Laws.Search.{lt-or-le}
+use Rattle.lists.specs.Lists.{total}
+use Rattle.lists.proofs.Laws.Search.{lt-or-le}
 use Rattle.counters.specs.Blocks.{zeros}
 use Rattle.counters.proofs.Laws.{length-zeros}
 use Rattle.queues.specs.Cells.{Hop, Entry, moved, arrived, passed, step, steps, waiting, delivered, arrivals, span}

@@ -1,4 +1,4 @@
--- The slots of a site: the children of a parent by rising index, what the slot rule deals them, and the schedule of all links.
+-- The slots of a site: the children of a parent by rising index, what the slot rule assigns them, and the schedule of all links.
 use Prim.Native.Nat.{ℕ, zero, suc, _+_, _-_, _≤_, _<_}
 use mathlib.Core.Path.{_≡_, refl, sym, _∙_, ap}
 use mathlib.Core.Bool.{Bool, true, false, not, cond, _&&_}
@@ -14,17 +14,19 @@ use native.Mathlib.Nat.{eq-or-lt-of-le, suc-add, zero-add, add-zero}
 use native.Mathlib.Numerals.{add-one}
 use native.Mathlib.Omega.{arith}
 use Rattle.pinwheel.specs.Rule.{base, periodsOf, offsetsOf}
-use Rattle.pinwheel.specs.Outcome.{Outcome, accepted, refused}
-use Rattle.pinwheel.specs.Deal.{dealt}
+use Rattle.rulings.specs.Outcome.{Outcome, accepted, refused}
+use Rattle.pinwheel.specs.Assign.{assigned}
 use Rattle.pinwheel.specs.Words.{InLimits}
-use Rattle.pinwheel.proofs.Laws.Checks.{good-dealt}
-use Rattle.pinwheel.proofs.Laws.Search.{lt-or-le, first-is, first-skip, first-end}
+use Rattle.pinwheel.proofs.Laws.Checks.{good-assigned}
+use Rattle.lists.proofs.Laws.Search.{lt-or-le, first-is, first-skip, first-end}
 use Rattle.site.specs.declared.Site.{Site}
 use Rattle.site.specs.Sites.{used}
-use Rattle.schedule.specs.Schedule.{kept, gapsFrom, gapsUnder, rank, dealtUnder, baseOf, baseUnder, crowded, firstCrowded}
-use Rattle.schedule.specs.Schedule.{entryDealt, listed, offsetsDealt, periodsDealt}
+use Rattle.schedule.specs.Schedule.{kept, gapsFrom, gapsUnder, rank, assignedUnder, baseOf, baseUnder, crowded, firstCrowded, entryAssigned, offsetsAssigned}
+use Rattle.schedule.specs.Schedule.{periodsAssigned}
+use Rattle.lists.specs.Lists.{listed}
 use Rattle.schedule.specs.Words.{Wellgapped}
-use Rattle.schedule.specs.Inner.{NextChild, Chained, Rising, Chain, GapsOf, DealtTo, Spread, SlotsOf}
+use Rattle.schedule.specs.Inner.{NextChild, Chained, LeadsOn, Chain, GapsOf, AssignedTo, Spread, SlotsOf}
+use Rattle.lists.proofs.Laws.Listed.{getD-replicated, take-replicate, length-listed, getD-listed}
 
 kept-append : (t : Bool) (x : ℕ) (xs ys : List ℕ) → kept t x (xs ++ ys) ≡ kept t x xs ++ ys
 kept-append true x xs ys = refl
@@ -91,11 +93,6 @@ module _ (parents gaps : List ℕ) (p : ℕ) where
       let e : x ≡ i + (x - i) = omega (arith, w .behind) in
       ap (λ (m : ℕ). gapsFrom parents gaps p m 0) e ∙ gaps-skip i (x - i) (λ j a b. w .none j a (omega arith))
 
-pub getD-replicated : (n i x : ℕ) → getD (replicate n x) i x ≡ x
-getD-replicated zero i x = refl
-getD-replicated (suc n) zero x = refl
-getD-replicated (suc n) (suc i) x = getD-replicated n i x
-
 -- chains_of, past the links from index i on.
 module _ (parents : List ℕ) (n : ℕ) where
   pub chained-start : (first next : List ℕ) → first ≡ replicate 256 n → length next ≡ 63 → Chained parents n n first next
@@ -138,7 +135,7 @@ module _ (parents : List ℕ) (n : ℕ) where
       leads j l (inr y) = rw (getD-set-other next k j (getD first (getD parents k 0) 0) 0 (λ z. omega arith)) (w .leads j (omega arith) l)
 
   module _ (first next : List ℕ) (w : Chained parents n 0 first next) where
-    pub chained-rising : Rising n next
+    pub chained-rising : LeadsOn n next
     chained-rising = record { long = w .next-long; step = λ i l. (omega (arith, w .leads i (omega arith) l .behind), w .leads i (omega arith) l .within) }
 
     pub chained-chain : (p : ℕ) → p < 256 → Chain parents next n p (getD first p 0)
@@ -237,11 +234,6 @@ module _ (parents : List ℕ) (p : ℕ) (values list : List ℕ) where
           });
         }
 
-take-replicate : (n m x : ℕ) → n ≤ m → take n (replicate m x) ≡ replicate n x
-take-replicate zero m x l = refl
-take-replicate (suc n) zero x l = absurd (omega arith)
-take-replicate (suc n) (suc m) x l = ap (λ (xs : List ℕ). x ∷ xs) (take-replicate n m x (omega arith))
-
 pub zeros-front : (xs : List ℕ) (n : ℕ) → xs ≡ replicate 63 0 → n ≤ 63 → length (take n xs) ≡ n
 zeros-front xs n z l = rw z (length-take-le n (replicate 63 0) l)
 
@@ -249,18 +241,18 @@ zeros-front xs n z l = rw z (length-take-le n (replicate 63 0) l)
 gaps-number : (wanted : List ℕ) (n : ℕ) (gaps : List ℕ) → GapsOf wanted n gaps → n ≡ length wanted
 gaps-number wanted n gaps g = sym (length-take-le n gaps (omega (arith, g .few, g .long))) ∙ ap length (g .are)
 
--- deal_to: the slot rule was lent the gaps and the first n of 63 zeros, twice.
+-- assign_to: the slot rule was lent the gaps and the first n of 63 zeros, twice.
 module _ (s : Site) (p n : ℕ) (gaps zs ys : List ℕ) (g : GapsOf (gapsUnder s p) n gaps) (z : zs ≡ replicate 63 0) (y : ys ≡ replicate 63 0) where
-  same : dealt 2 (take n gaps) (take n zs) (take n ys) ≡ dealtUnder s p
-  unfolding dealtUnder
+  same : assigned 2 (take n gaps) (take n zs) (take n ys) ≡ assignedUnder s p
+  unfolding assignedUnder
   same = rw (z, y, take-replicate n 63 0 (g .few), g .are, ← gaps-number (gapsUnder s p) n gaps g)
 
-  pub dealt-to : (answer : Outcome ℕ) (os ps : List ℕ) → (answer, os, ps) ≡ dealt 2 (take n gaps) (take n zs) (take n ys)
+  pub assigned-to : (answer : Outcome ℕ) (os ps : List ℕ) → (answer, os, ps) ≡ assigned 2 (take n gaps) (take n zs) (take n ys)
       → (b : ℕ) → b ≡ baseOf answer
       → length os ≡ length (take n zs) → length ps ≡ length (take n ys)
-      → DealtTo s p b n (os ++ drop n zs) (ps ++ drop n ys)
+      → AssignedTo s p b n (os ++ drop n zs) (ps ++ drop n ys)
   unfolding baseUnder
-  dealt-to answer os ps e b q o k =
+  assigned-to answer os ps e b q o k =
       record {
         offsets-long = length-front zs os n o ∙ rw z;
         periods-long = length-front ys ps n k ∙ rw y;
@@ -271,42 +263,31 @@ module _ (s : Site) (p n : ℕ) (gaps zs ys : List ℕ) (g : GapsOf (gapsUnder s
         periods = take-at ps (drop n ys) n (k ∙ zeros-front ys n y (g .few)) ∙ ap (λ (r : Outcome ℕ × List ℕ × List ℕ). r .2) told;
       }
     where
-      told : (answer, os, ps) ≡ dealtUnder s p
+      told : (answer, os, ps) ≡ assignedUnder s p
       told = e ∙ same
 
-length-listed : (f : ℕ → ℕ) (r i : ℕ) → length (listed f r i) ≡ r
-unfolding listed
-length-listed f zero i = refl
-length-listed f (suc r) i = ap suc (length-listed f r (i + 1))
-
-getD-listed : (f : ℕ → ℕ) (r i k : ℕ) → k < r → getD (listed f r i) k 0 ≡ f (i + k)
-unfolding listed
-getD-listed f zero i k l = absurd (omega arith)
-getD-listed f (suc r) i zero l = rw add-zero
-getD-listed f (suc r) i (suc k) l = let e : i + suc k ≡ i + 1 + k = omega arith in rw e (getD-listed f r (i + 1) k (omega arith))
-
--- The entry of a link, in a list that is dealt under every parent.
+-- The entry of a link, in a list that is assigned under every parent.
 module _ (s : Site) (lists : ℕ → List ℕ) where
   entry-some : (i : ℕ) → i < used (s .links) → getD (s .parents) i 0 ≤ used (s .links)
-      → entryDealt s lists i ≡ getD (lists (getD (s .parents) i 0)) (rank s (getD (s .parents) i 0) i) 0
-  unfolding entryDealt
+      → entryAssigned s lists i ≡ getD (lists (getD (s .parents) i 0)) (rank s (getD (s .parents) i 0) i) 0
+  unfolding entryAssigned
   entry-some i l m = simp (lt-ltb _ _ l, le-leb _ _ m)
 
-  entry-none : (i : ℕ) → (i < used (s .links) → getD (s .parents) i 0 ≤ used (s .links) → ⊥) → entryDealt s lists i ≡ 0
-  unfolding entryDealt
+  entry-none : (i : ℕ) → (i < used (s .links) → getD (s .parents) i 0 ≤ used (s .links) → ⊥) → entryAssigned s lists i ≡ 0
+  unfolding entryAssigned
   entry-none i n = go (lt-or-le i (used (s .links))) (lt-or-le (used (s .links)) (getD (s .parents) i 0))
     where
       go : (i < used (s .links)) ⊎ (used (s .links) ≤ i)
           → (used (s .links) < getD (s .parents) i 0) ⊎ (getD (s .parents) i 0 ≤ used (s .links))
-          → entryDealt s lists i ≡ 0
+          → entryAssigned s lists i ≡ 0
       go (inr m) w = simp (le-ltb _ _ m)
       go (inl l) (inl m) = simp (lt-ltb _ _ l, lt-leb _ _ m)
       go (inl l) (inr m) = absurd (n l m)
 
-  entry-listed : (i : ℕ) → i < 63 → getD (listed (entryDealt s lists) 63 0) i 0 ≡ entryDealt s lists i
-  entry-listed i l = getD-listed (entryDealt s lists) 63 0 i l ∙ rw zero-add
+  entry-listed : (i : ℕ) → i < 63 → getD (listed (entryAssigned s lists) 63 0) i 0 ≡ entryAssigned s lists i
+  entry-listed i l = getD-listed (entryAssigned s lists) 63 0 i l ∙ rw zero-add
 
--- deal_all, with the parents below p done: the entries of their children are dealt, and the others are 0.
+-- assign_all, with the parents below p done: the entries of their children are assigned, and the others are 0.
 pub record Entered (s : Site) (lists : ℕ → List ℕ) (p : ℕ) (list : List ℕ) : Type 0 where
   pub long : length list ≡ 63
   pub some : (i : ℕ) → i < used (s .links) → getD (s .parents) i 0 < p
@@ -345,33 +326,33 @@ module _ (s : Site) (lists : ℕ → List ℕ) where
             h .child (s .gaps) i l q ∙ sym (getD-take n values (rank s p i) 0 (omega (arith, child-gap s p i l q .0))) ∙ rw (are, q)
         go i l (inr b) = h .other i (λ m q. absurd (omega arith)) ∙ e .some i l b
 
-    entered-end : used (s .links) < p → p ≤ used (s .links) + 1 → list ≡ listed (entryDealt s lists) 63 0
+    entered-end : used (s .links) < p → p ≤ used (s .links) + 1 → list ≡ listed (entryAssigned s lists) 63 0
     entered-end lo hi =
-        ext-getD 0 list (listed (entryDealt s lists) 63 0) (e .long ∙ sym (length-listed (entryDealt s lists) 63 0))
+        ext-getD 0 list (listed (entryAssigned s lists) 63 0) (e .long ∙ sym (length-listed (entryAssigned s lists) 63 0))
         (λ i l. go i (lt-or-le i (used (s .links))) (lt-or-le (used (s .links)) (getD (s .parents) i 0))
         ∙ sym (entry-listed s lists i (omega (arith, e .long))))
       where
         go : (i : ℕ) → (i < used (s .links)) ⊎ (used (s .links) ≤ i)
             → (used (s .links) < getD (s .parents) i 0) ⊎ (getD (s .parents) i 0 ≤ used (s .links))
-            → getD list i 0 ≡ entryDealt s lists i
+            → getD list i 0 ≡ entryAssigned s lists i
         go i (inr m) w = e .none i (λ l b. omega arith) ∙ sym (entry-none s lists i (λ l b. omega arith))
         go i (inl l) (inl m) = e .none i (λ k b. omega arith) ∙ sym (entry-none s lists i (λ k b. omega arith))
         go i (inl l) (inr m) = e .some i l (omega arith) ∙ sym (entry-some s lists i l m)
 
--- deal_all, with the parents below p done: none of them is crowded, and both lists have what is dealt to their children.
-pub record Dealing (s : Site) (n : ℕ) (first next : List ℕ) (p : ℕ) (os ps : List ℕ) : Type 0 where
+-- assign_all, with the parents below p done: none of them is crowded, and both lists have what is assigned to their children.
+pub record Assigning (s : Site) (n : ℕ) (first next : List ℕ) (p : ℕ) (os ps : List ℕ) : Type 0 where
   pub all : n ≡ used (s .links)
   pub links : n ≤ 63
   pub chained : Chained (s .parents) n 0 first next
   pub most : p ≤ n + 1
   pub passed : (q : ℕ) → q < p → crowded s q ≡ false
-  pub offsets : Entered s (λ q. dealtUnder s q .1) p os
-  pub periods : Entered s (λ q. dealtUnder s q .2) p ps
+  pub offsets : Entered s (λ q. assignedUnder s q .1) p os
+  pub periods : Entered s (λ q. assignedUnder s q .2) p ps
 
 module _ (s : Site) (n : ℕ) (first next : List ℕ) where
-  pub dealing-start : n ≡ used (s .links) → Chained (s .parents) n 0 first next → (os ps : List ℕ) → os ≡ replicate 63 0 → ps ≡ replicate 63 0
-      → Dealing s n first next 0 os ps
-  dealing-start u c os ps o q = record {
+  pub assigning-start : n ≡ used (s .links) → Chained (s .parents) n 0 first next → (os ps : List ℕ) → os ≡ replicate 63 0 → ps ≡ replicate 63 0
+      → Assigning s n first next 0 os ps
+  assigning-start u c os ps o q = record {
     all = u;
     links = omega (arith, used-most (s .links));
     chained = c;
@@ -381,10 +362,10 @@ module _ (s : Site) (n : ℕ) (first next : List ℕ) where
     periods = entered-start _ _ ps q;
   }
 
-  module _ (p : ℕ) (os ps : List ℕ) (d : Dealing s n first next p os ps) where
-    pub dealing-end : n < p → SlotsOf s p os ps
-    unfolding firstCrowded offsetsDealt periodsDealt
-    dealing-end l = record {
+  module _ (p : ℕ) (os ps : List ℕ) (d : Assigning s n first next p os ps) where
+    pub assigning-end : n < p → SlotsOf s p os ps
+    unfolding firstCrowded offsetsAssigned periodsAssigned
+    assigning-end l = record {
       crowded = sym (first-skip _ (used (s .links) + 1) p (omega arith) (d .passed) ∙ first-end (crowded s) (used (s .links) + 1) p (omega arith));
       offsets = λ m. entered-end _ _ p os (d .offsets) m (omega arith);
       periods = λ m. entered-end _ _ p ps (d .periods) m (omega arith);
@@ -396,9 +377,9 @@ module _ (s : Site) (n : ℕ) (first next : List ℕ) where
       head = d .chained .heads p (omega (arith, d .links))
 
       -- With no children under p.
-      pub dealing-none : n ≤ getD first p 0 → Dealing s n first next (p + 1) os ps
+      pub assigning-none : n ≤ getD first p 0 → Assigning s n first next (p + 1) os ps
       unfolding crowded gapsUnder gapsFrom
-      dealing-none h =
+      assigning-none h =
           let last : getD first p 0 ≡ n = omega (arith, head .within) in
           let none : length (gapsUnder s p) ≡ 0 = ap length (rw (last, d .all) at (gaps-next (s .parents) (s .gaps) p n 0 (getD first p 0) head)) in
           record {
@@ -411,11 +392,11 @@ module _ (s : Site) (n : ℕ) (first next : List ℕ) where
             periods = entered-skip _ _ p ps (d .periods) none;
           }
 
-      -- With what the slot rule deals under p.
-      module _ (b m : ℕ) (vs ws : List ℕ) (t : DealtTo s p b m vs ws) where
-        pub dealing-crowded : getD first p 0 < n → b ≡ 0 → SlotsOf s p os ps
+      -- With what the slot rule assigns under p.
+      module _ (b m : ℕ) (vs ws : List ℕ) (t : AssignedTo s p b m vs ws) where
+        pub assigning-crowded : getD first p 0 < n → b ≡ 0 → SlotsOf s p os ps
         unfolding firstCrowded crowded
-        dealing-crowded some z =
+        assigning-crowded some z =
             let k : length (gapsUnder s p) ≡ 0 → ⊥ = omega (arith, child-gap s p (getD first p 0) (rw (d .all) at some) (head .child some) .0) in
             record {
               crowded = sym (first-is (crowded s) (used (s .links) + 1) 0 p (omega arith) (omega arith)
@@ -432,9 +413,9 @@ module _ (s : Site) (n : ℕ) (first next : List ℕ) where
             go true = ne-eqb _ _ (λ e. f (t .base ∙ e))
             go false = refl
 
-        pub dealing-more : (b ≡ 0 → ⊥) → (os′ ps′ : List ℕ) → Spread (s .parents) n p vs os os′ → Spread (s .parents) n p ws ps ps′
-            → Dealing s n first next (p + 1) os′ ps′
-        dealing-more fits os′ ps′ o q = record {
+        pub assigning-more : (b ≡ 0 → ⊥) → (os′ ps′ : List ℕ) → Spread (s .parents) n p vs os os′ → Spread (s .parents) n p ws ps ps′
+            → Assigning s n first next (p + 1) os′ ps′
+        assigning-more fits os′ ps′ o q = record {
           all = d .all;
           links = d .links;
           chained = d .chained;
@@ -445,29 +426,29 @@ module _ (s : Site) (n : ℕ) (first next : List ℕ) where
         }
 
 -- What the schedule means. First its lists: as long as those of the site, a link with a parent in the site has the entry of its rank
--- among those dealt under that parent, and entries not in use are 0.
+-- among those assigned under that parent, and entries not in use are 0.
 module _ (s : Site) where
-  pub offsets-dealt-long : length (offsetsDealt s) ≡ 63
-  unfolding offsetsDealt
-  offsets-dealt-long = length-listed (entryDealt s (λ q. dealtUnder s q .1)) 63 0
+  pub offsets-assigned-long : length (offsetsAssigned s) ≡ 63
+  unfolding offsetsAssigned
+  offsets-assigned-long = length-listed (entryAssigned s (λ q. assignedUnder s q .1)) 63 0
 
-  pub periods-dealt-long : length (periodsDealt s) ≡ 63
-  unfolding periodsDealt
-  periods-dealt-long = length-listed (entryDealt s (λ q. dealtUnder s q .2)) 63 0
+  pub periods-assigned-long : length (periodsAssigned s) ≡ 63
+  unfolding periodsAssigned
+  periods-assigned-long = length-listed (entryAssigned s (λ q. assignedUnder s q .2)) 63 0
 
   pub entry-at : (p i : ℕ) → i < used (s .links) → getD (s .parents) i 0 ≡ p → p ≤ used (s .links)
-      → (getD (offsetsDealt s) i 0 ≡ getD (dealtUnder s p .1) (rank s p i) 0) × (getD (periodsDealt s) i 0 ≡ getD (dealtUnder s p .2) (rank s p i) 0)
-  unfolding offsetsDealt periodsDealt
-  entry-at p i l e m = (at (λ q. dealtUnder s q .1), at (λ q. dealtUnder s q .2))
+      → (getD (offsetsAssigned s) i 0 ≡ getD (assignedUnder s p .1) (rank s p i) 0) × (getD (periodsAssigned s) i 0 ≡ getD (assignedUnder s p .2) (rank s p i) 0)
+  unfolding offsetsAssigned periodsAssigned
+  entry-at p i l e m = (at (λ q. assignedUnder s q .1), at (λ q. assignedUnder s q .2))
     where
-      at : (lists : ℕ → List ℕ) → getD (listed (entryDealt s lists) 63 0) i 0 ≡ getD (lists p) (rank s p i) 0
+      at : (lists : ℕ → List ℕ) → getD (listed (entryAssigned s lists) 63 0) i 0 ≡ getD (lists p) (rank s p i) 0
       at lists = entry-listed s lists i (omega (arith, used-most (s .links))) ∙ entry-some s lists i l (omega arith) ∙ rw e
 
-  pub entry-unused : (i : ℕ) → used (s .links) ≤ i → i < 63 → (getD (offsetsDealt s) i 0 ≡ 0) × (getD (periodsDealt s) i 0 ≡ 0)
-  unfolding offsetsDealt periodsDealt
-  entry-unused i m l = (at (λ q. dealtUnder s q .1), at (λ q. dealtUnder s q .2))
+  pub entry-unused : (i : ℕ) → used (s .links) ≤ i → i < 63 → (getD (offsetsAssigned s) i 0 ≡ 0) × (getD (periodsAssigned s) i 0 ≡ 0)
+  unfolding offsetsAssigned periodsAssigned
+  entry-unused i m l = (at (λ q. assignedUnder s q .1), at (λ q. assignedUnder s q .2))
     where
-      at : (lists : ℕ → List ℕ) → getD (listed (entryDealt s lists) 63 0) i 0 ≡ 0
+      at : (lists : ℕ → List ℕ) → getD (listed (entryAssigned s lists) 63 0) i 0 ≡ 0
       at lists = entry-listed s lists i l ∙ entry-none s lists i (λ k b. omega arith)
 
 -- With gaps from 1 to 1,024 everywhere, so are those of a parent's children.
@@ -490,16 +471,16 @@ module _ (s : Site) (p : ℕ) where
   abbrev zeros : List ℕ
   zeros = replicate (length (gapsUnder s p)) 0
 
-  -- What the slot rule deals to the children of p where only the base is left to judge; the test is whether it is 0.
+  -- What the slot rule assigns to the children of p where only the base is left to judge; the test is whether it is 0.
   abbrev ruled : Bool → Outcome ℕ × List ℕ × List ℕ
   ruled t = cond t (refused 11 0, zeros, zeros) (accepted (base 2 (gapsUnder s p)), offsetsOf 2 (gapsUnder s p), periodsOf 2 (gapsUnder s p))
 
   -- With such gaps the slot rule refuses no parent that has children, except where no base fits them.
   module _ (w : Wellgapped s) (some : 1 ≤ length (gapsUnder s p)) where
-    by-base : dealtUnder s p ≡ ruled (eqb (base 2 (gapsUnder s p)) 0)
-    unfolding dealtUnder gapsUnder
+    by-base : assignedUnder s p ≡ ruled (eqb (base 2 (gapsUnder s p)) 0)
+    unfolding assignedUnder gapsUnder
     by-base =
-        good-dealt 2 (gapsUnder s p) zeros zeros (record {
+        good-assigned 2 (gapsUnder s p) zeros zeros (record {
           offsets-long = length-replicate _ _;
           periods-long = length-replicate _ _;
           some = some;
@@ -515,7 +496,7 @@ module _ (s : Site) (p : ℕ) where
         go true e = sym (eqb-true _ _ e)
         go false e = refl
 
-    pub dealt-lists : 1 ≤ baseUnder s p → (dealtUnder s p .1 ≡ offsetsOf 2 (gapsUnder s p)) × (dealtUnder s p .2 ≡ periodsOf 2 (gapsUnder s p))
-    dealt-lists h =
+    pub assigned-lists : 1 ≤ baseUnder s p → (assignedUnder s p .1 ≡ offsetsOf 2 (gapsUnder s p)) × (assignedUnder s p .2 ≡ periodsOf 2 (gapsUnder s p))
+    assigned-lists h =
         let n : base 2 (gapsUnder s p) ≡ 0 → ⊥ = omega (arith, base-under) in
         rw (by-base, ne-eqb _ _ n) (refl, refl)

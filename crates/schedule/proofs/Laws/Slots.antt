@@ -1,4 +1,4 @@
--- Where a link of a site with its own schedule stands among the children of its parent, and what the slot rule deals there.
+-- Where a link of a site with its own schedule stands among the children of its parent, and what the slot rule assigns there.
 use Prim.Native.Nat.{ℕ, _%_, _≤_, _<_}
 use mathlib.Core.Path.{_≡_, refl, _∙_, ap}
 use mathlib.Core.Bool.{Bool, true, false, cond, and-eq-true-iff}
@@ -13,21 +13,19 @@ use Rattle.pinwheel.specs.Words.{SendsIn}
 use Rattle.pinwheel.proofs.Laws.{sends-when}
 use Rattle.pinwheel.proofs.Laws.Room.{periods-long}
 use Rattle.site.specs.declared.Site.{Site}
-use Rattle.site.specs.Sites.{ofLink}
-use Rattle.site.specs.Tree.{has}
+use Rattle.tree.specs.Tree.{ofLink, has}
 use Rattle.site.specs.Sites.{used}
-use Rattle.schedule.specs.Schedule.{gapsUnder, rank, dealtUnder}
-use Rattle.schedule.specs.Schedule.{offsetsDealt, periodsDealt, linkSends}
-use Rattle.site.specs.Reservations.{along}
+use Rattle.schedule.specs.Schedule.{gapsUnder, rank, assignedUnder, offsetsAssigned, periodsAssigned, linkSends}
+use Rattle.reservations.specs.Reservations.{along}
 use Rattle.schedule.specs.Words.{Timed, SendsAt}
-use Rattle.schedule.proofs.Laws.Judge.{fits-base}
-use Rattle.schedule.proofs.Laws.Schedule.{base-under, child-gap, dealt-lists, entry-at}
+use Rattle.schedule.proofs.Laws.Crowded.{fits-base}
+use Rattle.schedule.proofs.Laws.Schedule.{base-under, child-gap, assigned-lists, entry-at}
 
 used-all : (links : ℕ) → links ≤ 63 → used links ≡ links
 unfolding used
 used-all links few = omega arith
 
--- The link at index i under its parent p: its place among p's children, and there what the slot rule deals for their gaps.
+-- The link at index i under its parent p: its place among p's children, and there what the slot rule assigns for their gaps.
 pub record Placed (s : Site) (p i : ℕ) : Type 0 where
   pub base-some : 1 ≤ base 2 (gapsUnder s p)
   pub place : rank s p i < length (gapsUnder s p)
@@ -77,11 +75,11 @@ module _ (s : Site) (h : Timed s) where
       some : 1 ≤ base 2 (gapsUnder s p)
       some = fits-base (gapsUnder s p) .1 (h .served .fit p (omega (arith, h .below i a), omega (arith, c .0)))
 
-      d : (dealtUnder s p .1 ≡ offsetsOf 2 (gapsUnder s p)) × (dealtUnder s p .2 ≡ periodsOf 2 (gapsUnder s p))
-      d = dealt-lists s p (h .gapped) (omega (arith, c .0)) (rw (base-under s p (h .gapped) (omega (arith, c .0))) some)
+      d : (assignedUnder s p .1 ≡ offsetsOf 2 (gapsUnder s p)) × (assignedUnder s p .2 ≡ periodsOf 2 (gapsUnder s p))
+      d = assigned-lists s p (h .gapped) (omega (arith, c .0)) (rw (base-under s p (h .gapped) (omega (arith, c .0))) some)
 
-      x : (getD (offsetsDealt s) i 0 ≡ getD (dealtUnder s p .1) (rank s p i) 0)
-          × (getD (periodsDealt s) i 0 ≡ getD (dealtUnder s p .2) (rank s p i) 0)
+      x : (getD (offsetsAssigned s) i 0 ≡ getD (assignedUnder s p .1) (rank s p i) 0)
+          × (getD (periodsAssigned s) i 0 ≡ getD (assignedUnder s p .2) (rank s p i) 0)
       x = entry-at s p i (omega (arith, all)) e (omega (arith, all, h .below i a))
 
   -- A slot of a link's offset is one in which the child at its place sends.

@@ -1,7 +1,7 @@
 -- Right because 1 and 14 are judged first, and a site that passes 14 has the slot of the other checks.
 use borrow.Author.Needs.{needs}
 use mathlib.Core.Path.{sym, _∙_}
-use Rattle.limits.proofs.Laws.{passes-sound, call-when}
+use Rattle.site_check.proofs.Laws.{passes-sound, call-when}
 use Rattle.simulation.proofs.Laws.{slot-advances}
 use Rattle.simulation.proofs.Laws.Answers.{slot-unlisted, slot-call}
 use Rattle.simulation.proofs.slot.Statement.{statement}

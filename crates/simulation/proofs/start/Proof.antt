@@ -1,6 +1,6 @@
 -- Right because 1 and 14 are judged before the counters are cleared, and there are 576 then.
 use mathlib.Core.Path.{sym, _∙_}
-use Rattle.limits.proofs.Laws.{call-when}
+use Rattle.site_check.proofs.Laws.{call-when}
 use Rattle.simulation.proofs.Laws.Answers.{start-call, start-passes}
 use borrow.Author.Needs.{needs}
 use Rattle.simulation.proofs.start.Statement.{statement}

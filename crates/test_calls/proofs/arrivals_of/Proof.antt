@@ -3,7 +3,7 @@ use borrow.Author.Needs.{needs}
 use Prim.Native.Nat.{_-_, _<_}
 use lib.ListN.{length}
 use native.Mathlib.Omega.{arith}
-use Rattle.test_text.proofs.Laws.Lines.{pair-after}
+use Rattle.testlib_text.proofs.Laws.Lines.{pair-after}
 use Rattle.test_calls.proofs.arrivals_of.Statement.{statement}
 use Rattle.test_calls.proofs.arrivals_of.Tie as tie
 

@@ -4,8 +4,8 @@ use Prim.Native.Nat.{_-_}
 use mathlib.Core.Path.{ap}
 use lib.ListN.{length}
 use native.Mathlib.Omega.{arith}
-use Rattle.test_text.specs.declared.Change.{Change}
-use Rattle.test_text.proofs.Laws.Lines.{change-after}
+use Rattle.testlib_text.specs.declared.Change.{Change}
+use Rattle.testlib_text.proofs.Laws.Lines.{change-after}
 use Rattle.test_schedules.proofs.altered.Statement.{statement}
 use Rattle.test_schedules.proofs.altered.Tie as tie
 

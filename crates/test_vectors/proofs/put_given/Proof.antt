@@ -1,6 +1,6 @@
 -- Right because as many bytes are lent as `parse_hex` counted, which are within the space.
 use borrow.Author.Needs.{needs}
-use Rattle.test_text.proofs.Laws.Hex.{filled-within}
+use Rattle.testlib_text.proofs.Laws.Hex.{filled-within}
 use Rattle.test_vectors.proofs.put_given.Statement.{statement}
 use Rattle.test_vectors.proofs.put_given.Tie as tie
 

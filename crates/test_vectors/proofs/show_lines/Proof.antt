@@ -3,7 +3,7 @@ use borrow.Author.Needs.{needs}
 use Prim.Native.Nat.{_-_, _≤_}
 use lib.ListN.{length}
 use native.Mathlib.Omega.{arith}
-use Rattle.test_text.proofs.Laws.Lines.{line-from, line-within}
+use Rattle.testlib_text.proofs.Laws.Lines.{line-from, line-within}
 use Rattle.test_vectors.proofs.show_lines.Statement.{statement}
 use Rattle.test_vectors.proofs.show_lines.Tie as tie
 

@@ -1,7 +1,7 @@
 -- Right because the fewest digits that hold the number are its decimal digits.
 use borrow.Author.Needs.{needs}
 use mathlib.Core.Path.{_∙_}
-use Rattle.text.proofs.Laws.Put.{put-as}
+use Rattle.slices.proofs.Laws.Put.{put-as}
 use Rattle.text.proofs.Laws.Decimal.{spelled}
 use Rattle.text.proofs.put_decimal.Statement.{statement}
 use Rattle.text.proofs.put_decimal.Tie as tie

@@ -5,16 +5,16 @@ use mathlib.Core.Bool.{Bool, true, false, cond}
 use mathlib.Core.List.{List, [], _∷_, _++_, map, append-assoc, append-nil}
 use borrow.Author.Tests.{ne-eqb}
 use native.Mathlib.Omega.{arith}
-use Rattle.pinwheel.specs.Outcome.{accepted}
-use Rattle.pinwheel.specs.Search.{joined}
+use Rattle.rulings.specs.Outcome.{accepted}
+use Rattle.lists.specs.Lists.{joined, same}
 use Rattle.site.specs.declared.Site.{Site}
 use Rattle.site.specs.Sites.{used, live}
-use Rattle.limits.specs.Check.{nodeOf, flowOf}
-use Rattle.limits.specs.Words.{Sound}
+use Rattle.site_check.specs.Check.{nodeOf, flowOf}
+use Rattle.site_check.specs.Words.{Sound}
 use Rattle.format.specs.Bytes.{bytesOf}
 use Rattle.format.specs.Words.{Bytes}
-use Rattle.reader.specs.Read.{readOf}
-use Rattle.writer.specs.Write.{nodeCommand, nodeBytes, flowCommand, flowBytes, flowIfLive, commandBytes, planBytes}
+use Rattle.plan_reader.specs.Read.{readOf}
+use Rattle.plan_writer.specs.Write.{nodeCommand, nodeBytes, flowCommand, flowBytes, flowIfLive, commandBytes, planBytes}
 use Rattle.plan.proofs.Laws.{read-written}
 use Rattle.text.specs.Letters.{letters}
 use Rattle.text.specs.Decimal.{decimal, given}
@@ -22,18 +22,19 @@ use Rattle.text.specs.Listed.{each, spacedDecimal}
 use Rattle.text.specs.Put.{textOf}
 use Rattle.text.proofs.Laws.Decimal.{decimal-value, decimal-number}
 use Rattle.text.proofs.Laws.Put.{text-joined}
-use Rattle.words.specs.Parts.{parts, firstPart, before, is, linesOf}
-use Rattle.words.specs.Words.{isBlank, nonempty, wordsOf, alike, said}
-use Rattle.words.proofs.Laws.Parts.{unmarked, unmarked-append, unmarked-first, before-unmarked}
-use Rattle.words.proofs.Laws.Spaced.{unmarked-spaced, words-spaced}
-use Rattle.report.specs.Listing.{nodeText, nodeTyped, typedFlow, flowTyped, flowTypedIf, siteTyped, listingLines, listingOf}
-use Rattle.report.proofs.Laws.Short.{flow-at, read-sound}
-use Rattle.typed_plan.specs.declared.Typed.{Typed}
-use Rattle.typed_plan.specs.declared.Typed.the-variants.{Node, Flow}
+use Rattle.line_words.specs.Parts.{parts, firstPart, before, is, linesOf}
+use Rattle.line_words.specs.Words.{isBlank, nonempty, wordsOf, said}
+use Rattle.line_words.proofs.Laws.Parts.{unmarked, unmarked-append, unmarked-first, before-unmarked}
+use Rattle.line_words.proofs.Laws.Spaced.{unmarked-spaced, words-spaced}
+use Rattle.plan_listing.specs.Listing.{nodeText, nodeTyped, typedFlow, flowTyped, flowTypedIf, siteTyped, listingLines, listingOf}
+use Rattle.report_lines.proofs.Laws.Figures.{flow-at}
+use Rattle.plan.proofs.Laws.Numbers.{read-sound}
+use Rattle.typed_line.specs.declared.Typed.{Typed}
+use Rattle.typed_line.specs.declared.Typed.the-variants.{Node, Flow}
 use Rattle.typed_plan.specs.declared.Assembled.{Assembled}
-use Rattle.typed_plan.specs.Lines.{wrong, commandOf, typedLine}
+use Rattle.typed_line.specs.Lines.{wrong, commandOf, typedLine}
 use Rattle.typed_plan.specs.Assemble.{pieceOf, piecesOf, planTyped, wrongOr, firstWrong}
-use Rattle.typed_plan.proofs.Laws.Operands.{node-right, flow-right}
+use Rattle.typed_line.proofs.Laws.Operands.{node-right, flow-right}
 
 -- A name and numbers behind it, with a space before each.
 abbrev figures : List ℕ → List ℕ → List ℕ
@@ -55,7 +56,7 @@ figures-typed name ns g blank hash =
 -- With operands within their limits such a line is a node's, or a flow's.
 node-typed : (parent capacity gap : ℕ) → parent ≤ 255 → capacity ≤ 65535 → gap ≤ 65535
     → typedLine (figures (letters "node") (parent ∷ capacity ∷ gap ∷ [])) ≡ Node parent capacity gap
-unfolding commandOf alike wrong said given unmarked isBlank
+unfolding commandOf same wrong said given unmarked isBlank
 node-typed parent capacity gap a b c =
     figures-typed (letters "node") (parent ∷ capacity ∷ gap ∷ []) refl refl refl
     ∙ sym (node-right _ parent capacity gap (rw (decimal-number parent 255 a, decimal-number capacity 65535 b, decimal-number gap 65535 c))
@@ -63,7 +64,7 @@ node-typed parent capacity gap a b c =
 
 flow-typed : (number entry rate deadline : ℕ) → number ≤ 255 → entry ≤ 255 → rate ≤ 255 → deadline ≤ 65535
     → typedLine (figures (letters "flow") (number ∷ entry ∷ rate ∷ deadline ∷ [])) ≡ Flow number entry rate deadline
-unfolding commandOf alike wrong said given unmarked isBlank
+unfolding commandOf same wrong said given unmarked isBlank
 flow-typed number entry rate deadline a b c d =
     figures-typed (letters "flow") (number ∷ entry ∷ rate ∷ deadline ∷ []) refl refl refl
     ∙ sym (flow-right _ number entry rate deadline

@@ -11,18 +11,19 @@ use denote.Enum.Declared.{tagOf}
 use types.Run.{OneOf}
 use native.Mathlib.Omega.{arith}
 use Rattle.format.specs.Bytes.{bytesOf}
-use Rattle.text.specs.Put.{put, puts, textOf}
+use Rattle.slices.specs.Put.{put}
+use Rattle.text.specs.Put.{puts, textOf}
 use Rattle.text.proofs.Laws.Put.{puts-one, puts-then, puts-long, puts-whole, text-append}
-use Rattle.words.specs.Parts.{onto, parts, is, linesOf, Reaches}
-use Rattle.words.proofs.Laws.Parts.{parts-marked, parts-last}
-use Rattle.typed_plan.proofs.Typed.{the-type}
+use Rattle.line_words.specs.Parts.{onto, parts, is, linesOf, Reaches}
+use Rattle.line_words.proofs.Laws.Parts.{parts-marked, parts-last}
+use Rattle.typed_line.proofs.Typed.{the-type}
 use Rattle.typed_plan.proofs.Assembled.{the-type as assembled-type}
-use Rattle.typed_plan.specs.declared.Typed.{Typed}
-use Rattle.typed_plan.specs.declared.Typed.the-variants.{Nothing, Node, Flow, Bad}
+use Rattle.typed_line.specs.declared.Typed.{Typed}
+use Rattle.typed_line.specs.declared.Typed.the-variants.{Nothing, Node, Flow, Bad}
 use Rattle.typed_plan.specs.declared.Assembled.{Assembled}
 use Rattle.typed_plan.specs.declared.Assembled.the-variants.{Length, BadLine, Short, Long}
-use Rattle.typed_plan.specs.Lines.{typedLine}
-use Rattle.typed_plan.specs.Assemble.{pieceOf, piecesOf, planTyped, wrongOr, firstWrong, stored, assembledOf}
+use Rattle.typed_line.specs.Lines.{typedLine}
+use Rattle.typed_plan.specs.Assemble.{pieceOf, piecesOf, planTyped, wrongOr, firstWrong, storedPlan, assembledOf}
 
 no-three : _≡_ {A = ℕ} 3 0 ⊎ _≡_ {A = ℕ} 3 1 ⊎ _≡_ {A = ℕ} 3 2 → ⊥
 no-three (inl e) = absurd (omega arith)
@@ -149,7 +150,7 @@ module _ (text : List ℕ) where
           let all : size + n ≡ length (planTyped text) = omega (arith, s .1) in
           rw all (s .0 (Length (length (planTyped text))))
 
--- What is stored, by what the check of all lines came to.
+-- What is storedPlan, by what the check of all lines came to.
 pub assembled-long : (text out : List ℕ) → 65535 < length text → (Long, out) ≡ assembledOf text out
 unfolding assembledOf
 assembled-long text out l = rw (lt-ltb _ _ l)
@@ -173,7 +174,7 @@ checked-length (l ∷ ls) k n = go (typedLine l) (checked-length ls (k + 1) n)
     go (Bad a b) e = refl
 
 module _ (text out : List ℕ) (few : length text ≤ 65535) (a : Assembled) (e : a ≡ firstWrong (linesOf text) 1 (Length (length (planTyped text)))) where
-  pub judged : assembledOf text out ≡ stored a (planTyped text) out
+  pub judged : assembledOf text out ≡ storedPlan a (planTyped text) out
   unfolding assembledOf
   judged = rw (le-ltb _ _ few, e)
 
@@ -182,12 +183,12 @@ module _ (text out : List ℕ) (few : length text ≤ 65535) (a : Assembled) (e 
       ap (λ (x : Assembled). lengthOf x (length (planTyped text))) (sym q ∙ e) ∙ checked-length (linesOf text) 1 (length (planTyped text))
 
   pub assembled-short : (size : ℕ) → a ≡ Length size → length out < size → (Short, out) ≡ assembledOf text out
-  unfolding stored
+  unfolding storedPlan
   assembled-short size q l = sym (judged ∙ rw (q, lt-ltb _ _ l))
 
   pub assembled-stored : (size : ℕ) → a ≡ Length size → size ≤ length out → (r : ℕ) (new : List ℕ) → (r, new) ≡ puts (0, out) (piecesOf (linesOf text))
       → (Length size, new) ≡ assembledOf text out
-  unfolding stored planTyped
+  unfolding storedPlan planTyped
   assembled-stored size q l r new f =
       let n : size ≡ length (textOf (piecesOf (linesOf text))) = sized size q in
       let is : new ≡ planTyped text ++ drop size out =
@@ -195,10 +196,10 @@ module _ (text out : List ℕ) (few : length text ≤ 65535) (a : Assembled) (e 
       sym (judged ∙ rw (q, le-ltb _ _ l) (ap (λ (o : List ℕ). (Length size, o)) (sym is)))
 
   pub assembled-told : OneOf (1 ∷ 2 ∷ 3 ∷ []) (tagOf assembled-type a) → (a, out) ≡ assembledOf text out
-  unfolding stored
+  unfolding storedPlan
   assembled-told h = sym (judged ∙ go a h)
     where
-      go : (x : Assembled) → OneOf (1 ∷ 2 ∷ 3 ∷ []) (tagOf assembled-type x) → stored x (planTyped text) out ≡ (x, out)
+      go : (x : Assembled) → OneOf (1 ∷ 2 ∷ 3 ∷ []) (tagOf assembled-type x) → storedPlan x (planTyped text) out ≡ (x, out)
       go (Length n) h = absurd (no-zero h)
       go (BadLine k command place) h = refl
       go Short h = refl

@@ -5,7 +5,7 @@ use mathlib.Core.Path.{_≡_, _∙_}
 use mathlib.Core.Logic.{inl, inr}
 use native.Mathlib.Omega.{arith}
 use Rattle.site.specs.Sites.{used}
-use Rattle.report.proofs.Laws.Lines.{Printed, printed-start, printed-line, printed-none, printed-all, printed-long}
+use Rattle.report_lines.proofs.Laws.Lines.{Printed, printed-start, printed-line, printed-none, printed-all, printed-long}
 use Rattle.frames.specs.Marks.{idle, markIf, marks}
 use Rattle.frames.proofs.Laws.Slots.{links-few, idle-test, mark-here, mark-none}
 use Rattle.frames.proofs.marks.put_idle_marks.Statement.{statement}

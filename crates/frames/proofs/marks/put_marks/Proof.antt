@@ -5,7 +5,7 @@ use mathlib.Core.Path.{sym, _∙_}
 use mathlib.Core.Logic.{inl, inr}
 use native.Mathlib.Omega.{arith}
 use Rattle.pinwheel.specs.Rule.{sends}
-use Rattle.report.proofs.Laws.Lines.{Printed, printed-start, printed-line, printed-none, printed-all, printed-long}
+use Rattle.report_lines.proofs.Laws.Lines.{Printed, printed-start, printed-line, printed-none, printed-all, printed-long}
 use Rattle.frames.specs.Marks.{markIf, marks}
 use Rattle.frames.proofs.Laws.Slots.{mark-here, mark-none}
 use Rattle.frames.proofs.marks.put_marks.Statement.{statement}

@@ -1,8 +1,9 @@
 -- Right because a command is put as its six bytes, and nothing where a line has none.
 use borrow.Author.Needs.{needs}
-use mathlib.Core.Path.{refl, _∙_}
+use mathlib.Core.Path.{_∙_}
 use Rattle.text.specs.Put.{puts}
-use Rattle.text.proofs.Laws.Put.{put-as, puts-one}
+use Rattle.slices.proofs.Laws.Put.{put-as}
+use Rattle.text.proofs.Laws.Put.{puts-one}
 use Rattle.typed_plan.specs.Assemble.{pieceOf}
 use Rattle.typed_plan.proofs.plans.put_command.Statement.{statement}
 use Rattle.typed_plan.proofs.plans.put_command.Tie as tie

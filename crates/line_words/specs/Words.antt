@@ -1,0 +1,47 @@
+-- The words of a line, and those that are numbers.
+use Prim.Native.Nat.{ℕ, _-_, _≤_, min}
+use mathlib.Core.Path.{_≡_}
+use mathlib.Core.Bool.{Bool, true, false, cond, not, _||_}
+use mathlib.Core.List.{List, [], _∷_}
+use lib.Dec.{eqb}
+use lib.ListN.{length, getD, take, drop}
+use Rattle.text.specs.Decimal.{valueOf, isNumber}
+use Rattle.line_words.specs.Parts.{parts}
+
+-- A space, a tab and a carriage return stand between words.
+unfoldable pub isBlank : ℕ → Bool
+isBlank c = eqb c 32 || eqb c 9 || eqb c 13
+
+abbrev pub isLetter : ℕ → Bool
+isLetter c = not (isBlank c)
+
+-- Parts that have a byte.
+unfoldable pub nonempty : List (List ℕ) → List (List ℕ)
+nonempty [] = []
+nonempty ([] ∷ ps) = nonempty ps
+nonempty ((c ∷ cs) ∷ ps) = (c ∷ cs) ∷ nonempty ps
+
+-- The words of a line.
+unfoldable pub wordsOf : List ℕ → List (List ℕ)
+wordsOf line = nonempty (parts isBlank line)
+
+unfoldable pub none : List (List ℕ) → Bool
+none [] = true
+none (w ∷ ws) = false
+
+-- The first of some words as a number of at most `most`, and the words behind it. Where it is none, no operand can follow either.
+unfoldable pub operandOf : List (List ℕ) → ℕ → Bool × ℕ × List (List ℕ)
+operandOf [] most = (false, 0, [])
+operandOf (w ∷ ws) most = cond (isNumber w most) (true, valueOf w, ws) (false, 0, [])
+
+-- The number that the word at index i says.
+unfoldable pub said : List (List ℕ) → ℕ → ℕ
+said words i = valueOf (getD words i [])
+
+-- The first word of a line from index `from` on stands from `start` to `end`; where there is none, both are the line's length.
+pub record NextWord (line : List ℕ) (from start end : ℕ) : Type 0 where
+  pub onward : min from (length line) ≤ start
+  pub ordered : start ≤ end
+  pub within : end ≤ length line
+  pub words : wordsOf (drop from line) ≡ cond (eqb start end) [] (take (end - start) (drop start line) ∷ wordsOf (drop end line))
+  pub last : start ≡ end → end ≡ length line

@@ -1,0 +1,1 @@
+// Searches, sums, joined and filled lists, with their laws; there is nothing to call.

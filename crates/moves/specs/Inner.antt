@@ -1,0 +1,42 @@
+-- What the inner functions tell their callers. The public promises cite none of this.
+use Prim.Native.Nat.{ℕ, _+_, _≤_, _<_}
+use mathlib.Core.Path.{_≡_}
+use mathlib.Core.Bool.{true, cond}
+use mathlib.Core.List.{List}
+use lib.ListN.{length, getD}
+use Rattle.lists.specs.Lists.{total}
+use Rattle.site.specs.declared.Site.{Site}
+use Rattle.tree.specs.Tree.{ofLink, route}
+use Rattle.site.specs.Sites.{live}
+use Rattle.reservations.specs.Reservations.{periodsJudged, widthAt}
+use Rattle.schedule.specs.Schedule.{linkSends}
+use Rattle.counters.specs.Blocks.{cellsOf}
+use Rattle.queues.specs.Cells.{Hop}
+use Rattle.moves.specs.Hops.{hopsAlong}
+
+-- What stands for the link of a node in slot t: its judged gap if it sends, else 0.
+unfoldable pub periodIn : Site → ℕ → ℕ → ℕ
+periodIn s t node = cond (linkSends s node t) (ofLink (periodsJudged s) node) 0
+
+-- A list with this for every link.
+pub record PeriodsIn (s : Site) (t : ℕ) (sending : List ℕ) : Type 0 where
+  pub each : (node : ℕ) → ofLink sending node ≡ periodIn s t node
+
+-- A link by such a list: in the one slot that the list is for, it moves up to the rate times its entry.
+abbrev pub inSlot : List ℕ → ℕ → ℕ → Hop
+inSlot sending rate node = record { sends = λ t. true; width = widthAt sending rate node; gap = 0 }
+
+-- The links from an entry node up, by such a list.
+abbrev pub hopsIn : List ℕ → List ℕ → ℕ → ℕ → List Hop
+hopsIn parents sending rate entry = hopsAlong (inSlot sending rate) (route parents entry)
+
+-- Nine cells that an arrival can join without leaving 32 bits.
+pub record Movable (cells : List ℕ) (arrival : ℕ) : Type 0 where
+  pub nine : length cells ≡ 9
+  pub fits : total cells + arrival ≤ 4294967295
+
+-- Every live flow's cells are such.
+pub record AllMovable (s : Site) (counters arrivals : List ℕ) : Type 0 where
+  pub counted : length counters ≡ 576
+  pub listed : length arrivals ≡ 64
+  pub each : (n : ℕ) → n < 64 → live s n ≡ true → Movable (cellsOf n counters) (getD arrivals n 0)

@@ -1,0 +1,23 @@
+-- What is listed of a plan, by the verdict of its reading.
+use Prim.Native.Nat.{ℕ}
+use mathlib.Core.Path.{_≡_, sym, ap}
+use mathlib.Core.List.{List}
+use Rattle.rulings.specs.Outcome.{Outcome, ruling}
+use Rattle.site.specs.declared.Site.{Site}
+use Rattle.rulings.specs.declared.Verdict.{Verdict}
+use Rattle.rulings.specs.declared.Verdict.the-variants.{Accepted, Refused}
+use Rattle.judgement.specs.Judge.{withSite}
+use Rattle.plan_reader.specs.Read.{readOf}
+use Rattle.text.specs.Put.{textOf}
+use Rattle.report_lines.specs.Lines.{refusalLine}
+use Rattle.plan_listing.specs.Listing.{siteTyped, listingLines, listingOf}
+use Rattle.report_lines.proofs.Laws.Read.{accepted-told, refused-told}
+
+module _ (bytes : List ℕ) (v : Verdict) (s : Site) (e : (ruling v, s) ≡ withSite (readOf bytes)) where
+  pub listing-accepted : v ≡ Accepted → textOf (siteTyped s) ≡ listingOf bytes
+  unfolding listingOf listingLines withSite
+  listing-accepted q = ap (λ (o : Outcome Site). textOf (listingLines o)) (sym (accepted-told _ (readOf bytes) v s e q))
+
+  pub listing-refused : (number place : ℕ) → v ≡ Refused number place → textOf (refusalLine number place) ≡ listingOf bytes
+  unfolding listingOf listingLines withSite
+  listing-refused number place q = ap (λ (o : Outcome Site). textOf (listingLines o)) (sym (refused-told _ (readOf bytes) v s e number place q))

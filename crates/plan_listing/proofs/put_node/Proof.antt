@@ -1,0 +1,55 @@
+-- Right because the fields are put one behind the other.
+use borrow.Author.Needs.{needs}
+use Rattle.text.proofs.Laws.Put.{puts-one, puts-then}
+use Rattle.plan_listing.proofs.put_node.Statement.{statement}
+use Rattle.plan_listing.proofs.put_node.Tie as tie
+
+slice-aggregate-put-field : tie.Need-slice-aggregate-put-field
+slice-aggregate-put-field c = search needs
+
+put-field-requires : tie.Need-put-field-requires
+put-field-requires c κs = search needs
+
+slice-aggregate-put-field-2 : tie.Need-slice-aggregate-put-field-2
+slice-aggregate-put-field-2 c = search needs
+
+put-field-requires-2 : tie.Need-put-field-requires-2
+put-field-requires-2 c κs = search needs
+
+slice-aggregate-put-field-3 : tie.Need-slice-aggregate-put-field-3
+slice-aggregate-put-field-3 c = search needs
+
+put-field-requires-3 : tie.Need-put-field-requires-3
+put-field-requires-3 c κs = search needs
+
+slice-aggregate-put : tie.Need-slice-aggregate-put
+slice-aggregate-put c = search needs
+
+put-requires : tie.Need-put-requires
+put-requires c κs = search needs
+
+same-length : tie.Need-same-length
+same-length c = search needs
+
+returns : tie.Need-returns
+returns c =
+    let end = c .before .before in
+    let wanted = end .before .before .before .before .before in
+    let wide = wanted .before .before .before .before .before in
+    let under = wide .before .before .before .before .before in
+    puts-then _ _ _ _ _ (under .put-field .ensures) (puts-then _ _ _ _ _ (wide .put-field2 .ensures) (puts-then _ _ _ _ _ (wanted .put-field3 .ensures) (puts-one _ _ _ (end .put .ensures))))
+
+pub put-node-spec : {M : Type 1} → statement M
+put-node-spec =
+    tie.close
+    (tie.spec
+    slice-aggregate-put-field
+    put-field-requires
+    slice-aggregate-put-field-2
+    put-field-requires-2
+    slice-aggregate-put-field-3
+    put-field-requires-3
+    slice-aggregate-put
+    put-requires
+    same-length
+    returns)

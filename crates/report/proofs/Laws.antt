@@ -1,5 +1,0 @@
--- What is proved of what is printed.
-pub mod Lines
-pub mod Deliver
-pub mod Read
-pub mod Short

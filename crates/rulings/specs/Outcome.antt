@@ -1,0 +1,51 @@
+-- What every operation comes to, in the terms of 01's tables of refusals.
+use Prim.Native.Nat.{ℕ}
+use mathlib.Core.Bool.{cond}
+use mathlib.Core.Path.{_≡_}
+use mathlib.Core.Logic.{_⊎_}
+use lib.Dec.{eqb}
+use Rattle.rulings.specs.declared.Verdict.{Verdict}
+use Rattle.rulings.specs.declared.Verdict.the-variants.{Accepted, Refused}
+
+-- Accepted, with what the operation gives, or refused with a number and a place.
+pub data Outcome (A : Type 0) : Type 0 where
+  accepted : A → Outcome A
+  refused : ℕ → ℕ → Outcome A
+
+-- Accepted, or refused with a number and a place: the outcome of a call that gives nothing besides.
+abbrev pub Ruling : Type 0
+Ruling = Outcome (Unit {0})
+
+-- A check that tells the number of what fails, 0 where nothing does, and has place 0; then the checks behind it.
+unfoldable pub checked : {A : Type 0} → ℕ → Outcome A → Outcome A
+checked number others = cond (eqb number 0) others (refused number 0)
+
+-- 01, refusals: a refused call leaves what was there.
+unfoldable pub settled : {A B : Type 0} → Outcome A → B → B → B
+settled (accepted a) new old = new
+settled (refused number place) new old = old
+
+-- 01, by-value results: an accepted call gives its own, and a refused one gives this other.
+unfoldable pub orElse : {A : Type 0} → A → Outcome A → Ruling × A
+orElse other (accepted a) = (accepted tt, a)
+orElse other (refused number place) = (refused number place, other)
+
+-- Checks in an order, each with its number and with what fails it at a place.
+pub data Checks : Type 1 where
+  none : Checks
+  check : ℕ → (ℕ → Type 0) → Checks → Checks
+
+-- 01's first failing check, in words: an outcome is refused by the first check that fails, at the place where it fails; where none does, it is
+-- accepted with something that is as it should be.
+unfoldable pub Ruled : {A : Type 0} → (A → Type 0) → Checks → Outcome A → Type 0
+Ruled {A = A} gives none o = (a : A) × (o ≡ accepted a) × gives a
+Ruled gives (check number fails rest) o = ((p : ℕ) × (o ≡ refused number p) × fails p) ⊎ (((p : ℕ) → fails p → ⊥) × Ruled gives rest o)
+
+-- An accepted call gives nothing but its acceptance.
+abbrev pub nothing : Unit {0} → Type 0
+nothing a = Unit {0}
+
+-- What each case of a verdict says in 01's terms; the site stands beside it.
+abbrev pub ruling : Verdict → Ruling
+ruling Accepted = accepted tt
+ruling (Refused number place) = refused number place

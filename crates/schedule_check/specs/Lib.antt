@@ -1,0 +1,3 @@
+pub mod Schedules
+pub mod Check
+pub mod Words

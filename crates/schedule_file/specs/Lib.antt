@@ -1,3 +1,0 @@
-pub mod Read
-pub mod Check
-pub mod Words

@@ -1,0 +1,58 @@
+-- Right because all bytes from the first to the index are digits; what is left of the line falls.
+use borrow.Author.Needs.{needs}
+use Prim.Native.Nat.{_-_}
+use mathlib.Core.Path.{_≡_, refl, sym, _∙_, ap}
+use lib.ListN.{length}
+use Rattle.lists.proofs.Laws.Search.{first-hit, first-miss, first-end}
+use Rattle.testlib_text.specs.Lines.{numberEnd}
+use mathlib.Core.Bool.{not}
+use Rattle.testlib_text.proofs.number_end.Statement.{statement}
+use Rattle.testlib_text.proofs.number_end.Tie as tie
+
+abbrev Inv-loop : tie.InvT-loop
+Inv-loop line first at₀ at = numberEnd line first ≡ numberEnd line at
+
+abbrev μ-loop : tie.MeasureT-loop
+μ-loop line first at₀ at = length line - at
+
+loop-holds : tie.Need-loop-holds Inv-loop μ-loop
+loop-holds c = refl
+
+shared-slice-read-is-digit : tie.Need-shared-slice-read-is-digit Inv-loop μ-loop
+shared-slice-read-is-digit c = search needs
+
+is-digit-requires : tie.Need-is-digit-requires Inv-loop μ-loop
+is-digit-requires c κs = search needs
+
+returns : tie.Need-returns Inv-loop μ-loop
+unfolding numberEnd
+returns c = sym (c .before .before .before .before .loop .inv ∙ first-hit _ _ _ (c .before .before .before .loop-test .taken) (ap not (sym (c .before .is-digit .ensures)) ∙ c .if1 .taken))
+
+add-at : tie.Need-add-at Inv-loop μ-loop
+add-at c = search needs
+
+loop-less : tie.Need-loop-less Inv-loop μ-loop
+loop-less c = search needs
+
+loop-again : tie.Need-loop-again Inv-loop μ-loop
+unfolding numberEnd
+loop-again c = c .before .before .before .before .loop .inv ∙ first-miss _ _ _ (c .before .before .before .loop-test .taken) (ap not (sym (c .before .is-digit .ensures)) ∙ c .if1 .left)
+
+returns-2 : tie.Need-returns-2 Inv-loop μ-loop
+unfolding numberEnd
+returns-2 c = sym (c .before .loop .inv ∙ first-end _ _ _ (c .loop-test .left))
+
+pub number-end-spec : {M : Type 1} → statement M
+number-end-spec =
+    tie.close
+    (tie.spec
+    Inv-loop
+    μ-loop
+    loop-holds
+    shared-slice-read-is-digit
+    is-digit-requires
+    returns
+    add-at
+    loop-less
+    loop-again
+    returns-2)

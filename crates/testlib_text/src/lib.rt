@@ -1,0 +1,261 @@
+// What the test programs share: lines of text with plans in hexadecimal or numbers in decimal, and what they print.
+use slices::Written;
+ghost use Prim.Native.Nat.{_%_, _-_, _*_, _+_, _<_};
+ghost use mathlib.Core.Path.{_≡_};
+ghost use lib.ListN.{take};
+ghost use Rattle.text.specs.Decimal.{isDigit, valueOf};
+ghost use Rattle.text.specs.Put.{puts};
+ghost use Rattle.slices.specs.Written.{writing};
+ghost use Rattle.testlib_text.specs.Lines.{beginsWith, lineEnd, numberStart, numberEnd, numberFrom, changeFrom};
+ghost use Rattle.testlib_text.specs.Hex.{hexValue, hexBytes, hexStored, filled};
+ghost use Rattle.testlib_text.specs.Printed.{writtenText, leftText, numberedBytes};
+
+// The index of the end of the line that begins at `start`.
+pub fn line_end(text: &[u8], start: usize) -> usize
+    ensures { λ r. ⌜ r ≡ lineEnd (now (text .entry)) start ⌝ }
+{
+    let mut end = start;
+    while end < text.len() {
+        if text[end] == b'\n' {
+            return end;
+        }
+        end += 1;
+    }
+    end
+}
+
+// Whether the line begins with this byte.
+pub fn begins(line: &[u8], byte: u8) -> bool
+    ensures { λ r. ⌜ r ≡ beginsWith (now (line .entry)) byte ⌝ }
+{
+    if line.len() == 0 {
+        return false;
+    }
+    line[0] == byte
+}
+
+// The value of a hexadecimal digit, 16 for any other byte.
+fn digit(c: u8) -> u8
+    ensures { λ r. ⌜ r ≡ hexValue c ⌝ }
+{
+    if c < b'0' {
+        return 16;
+    }
+    if c <= b'9' {
+        return c - b'0';
+    }
+    if c < b'A' {
+        return 16;
+    }
+    if c <= b'F' {
+        return c - b'A' + 10;
+    }
+    16
+}
+
+// The byte of two hexadecimal digits.
+fn byte_of(high: u8, low: u8) -> u8
+    requires { ⌜ (high < 16) × (low < 16) ⌝ }
+    ensures { λ r. ⌜ r ≡ high * 16 + low ⌝ }
+{
+    high * 16 + low
+}
+
+// Puts the byte after the first n if there is room; answers how many there are then.
+fn store(bytes: &mut [u8], n: usize, byte: u8) -> usize
+    ensures { λ r. ⌜ (r, now (bytes .exit)) ≡ hexStored (n, now (bytes .entry)) byte ⌝ }
+{
+    if n < bytes.len() {
+        bytes[n] = byte;
+        return n + 1;
+    }
+    n
+}
+
+// The bytes that the line's pairs of hexadecimal digits stand for, as many as there is room for; answers how many these are.
+pub fn parse_hex(line: &[u8], bytes: &mut [u8]) -> usize
+    ensures { λ r. ⌜ (r, now (bytes .exit)) ≡ filled (hexBytes (now (line .entry))) (now (bytes .entry)) ⌝ }
+{
+    let mut n = 0;
+    let mut high: u8 = 16;
+    let mut i = 0;
+    while i < line.len() {
+        let value = digit(line[i]);
+        i += 1;
+        if value < 16 {
+            if high < 16 {
+                n = store(bytes, n, byte_of(high, value));
+                high = 16;
+            } else {
+                high = value;
+            }
+        }
+    }
+    n
+}
+
+fn is_digit(c: u8) -> bool
+    ensures { λ r. ⌜ r ≡ isDigit c ⌝ }
+{
+    if c < b'0' {
+        return false;
+    }
+    c <= b'9'
+}
+
+// The index of the first decimal digit from `start` on.
+fn number_start(line: &[u8], start: usize) -> usize
+    ensures { λ r. ⌜ r ≡ numberStart (now (line .entry)) start ⌝ }
+{
+    let mut at = start;
+    while at < line.len() {
+        if is_digit(line[at]) {
+            return at;
+        }
+        at += 1;
+    }
+    at
+}
+
+// The index behind the decimal digits that begin at `first`.
+fn number_end(line: &[u8], first: usize) -> usize
+    ensures { λ r. ⌜ r ≡ numberEnd (now (line .entry)) first ⌝ }
+{
+    let mut at = first;
+    while at < line.len() {
+        if !is_digit(line[at]) {
+            return at;
+        }
+        at += 1;
+    }
+    at
+}
+
+// How far a byte is above the digit 0.
+fn above_zero(c: u8) -> usize
+    ensures { λ r. ⌜ r ≡ c - 48 ⌝ }
+{
+    if c < b'0' {
+        return 0;
+    }
+    (c - b'0') as usize
+}
+
+// What the first ten digits say: enough for every number of 32 bits.
+fn value_of(digits: &[u8]) -> usize
+    ensures { λ r. ⌜ r ≡ valueOf (take 10 (now (digits .entry))) ⌝ }
+{
+    let mut value: usize = 0;
+    let mut i = 0;
+    while i < digits.len() {
+        if i == 10 {
+            return value;
+        }
+        value = value * 10 + above_zero(digits[i]);
+        i += 1;
+    }
+    value
+}
+
+// A decimal number of a line and the index behind its last digit. Where there is none, `found` is false and the index is the line's length.
+pub struct Number {
+    pub found: bool,
+    pub value: usize,
+    pub next: usize,
+}
+
+// The first decimal number of the line from `start` on.
+pub fn next_number(line: &[u8], start: usize) -> Number
+    ensures { λ r. ⌜ r ≡ numberFrom (now (line .entry)) start ⌝ }
+{
+    let first = number_start(line, start);
+    if first < line.len() {
+        let next = number_end(line, first);
+        let value = value_of(&line[first..next]);
+        return Number {
+            found: true,
+            value,
+            next,
+        };
+    }
+    Number {
+        found: false,
+        value: 0,
+        next: line.len(),
+    }
+}
+
+// A change of one entry that a line asks for: field, index and value, and the index of the line behind them. `found` is false where one of the three is missing.
+pub struct Change {
+    pub found: bool,
+    pub field: usize,
+    pub index: usize,
+    pub value: usize,
+    pub next: usize,
+}
+
+// The first change of the line from `start` on.
+pub fn next_change(line: &[u8], start: usize) -> Change
+    ensures { λ r. ⌜ r ≡ changeFrom (now (line .entry)) start ⌝ }
+{
+    let field = next_number(line, start);
+    let index = next_number(line, field.next);
+    let value = next_number(line, index.next);
+    Change {
+        found: value.found,
+        field: field.value,
+        index: index.value,
+        value: value.value,
+        next: value.next,
+    }
+}
+
+// The low 8 and 16 bits of a number.
+pub fn low8(value: usize) -> u8
+    ensures { λ r. ⌜ r ≡ value % 256 ⌝ }
+{
+    (value % 256) as u8
+}
+
+pub fn low16(value: usize) -> u16
+    ensures { λ r. ⌜ r ≡ value % 65536 ⌝ }
+{
+    (value % 65536) as u16
+}
+
+// Byte i is 100 + i, so that every byte that a writer leaves alone can be told.
+pub fn numbered() -> [u8; 64]
+    ensures { λ r. ⌜ r ≡ numberedBytes ⌝ }
+{
+    let mut out = [0u8; 64];
+    let mut i: u8 = 0;
+    while i < 64 {
+        out[i as usize] = 100 + i;
+        i += 1;
+    }
+    out
+}
+
+// A writer's answer: the number of bytes, or the refusal.
+pub fn put_written(out: &mut [u8], at: usize, name: &[u8], written: Written) -> usize
+    ensures { λ r. ⌜ (r, now (out .exit)) ≡ puts (at, now (out .entry)) (writtenText (now (name .entry)) (writing written)) ⌝ }
+{
+    let named = slices::put(out, at, name);
+    match written {
+        Written::Length(n) => text::put_field(out, named, b" ", n as u64),
+        Written::Refused(number, place) => {
+            let spaced = slices::put(out, named, b" ");
+            report_lines::put_refusal(out, spaced, number, place)
+        }
+    }
+}
+
+// A writer's answer, and what the slice holds then.
+pub fn put_left(out: &mut [u8], at: usize, name: &[u8], written: Written, bytes: &[u8]) -> usize
+    ensures { λ r. ⌜ (r, now (out .exit))
+        ≡ puts (at, now (out .entry)) (leftText (now (name .entry)) (writing written) (now (bytes .entry))) ⌝ }
+{
+    let told = put_written(out, at, name, written);
+    let parted = slices::put(out, told, b":");
+    hexadecimal::put_hex(out, parted, bytes)
+}

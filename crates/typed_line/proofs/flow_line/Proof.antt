@@ -1,0 +1,93 @@
+-- Right because the operands are read one after the other: the first that is missing or too large is the first wrong word, and so is one behind the last.
+use borrow.Author.Needs.{needs}
+use mathlib.Core.Path.{refl}
+use mathlib.Core.List.{[], _∷_}
+use lib.ListN.{drop}
+use Rattle.line_words.specs.Words.{wordsOf}
+use Rattle.typed_line.specs.Lines.{flowWidths}
+use Rattle.typed_line.proofs.Laws.Operands.{Left, left-start, left-more, left-value, left-wrong, left-none, left-many, flow-wrong, flow-right}
+use Rattle.typed_line.proofs.flow_line.Statement.{statement}
+use Rattle.typed_line.proofs.flow_line.Tie as tie
+
+read1 : (c : tie.Else1) → Left flowWidths (wordsOf (drop (c .before .before .before .before .args .from) (c .before .before .before .before .args .line .now))) 1 (255 ∷ 255 ∷ 65535 ∷ []) (wordsOf (drop (c .before .before .next-operand .result .next) (c .before .before .before .before .args .line .now)))
+read1 c = left-more _ _ 0 _ _ _ (left-start flowWidths _) _ _ _ (c .before .before .next-operand .ensures .0) (c .if1 .left)
+
+read2 : (c : tie.Else2) → Left flowWidths (wordsOf (drop (c .before .before .before .before .before .before .before .args .from) (c .before .before .before .before .before .before .before .args .line .now))) 2 (255 ∷ 65535 ∷ []) (wordsOf (drop (c .before .before .next-operand2 .result .next) (c .before .before .before .before .before .before .before .args .line .now)))
+read2 c = left-more _ _ 1 _ _ _ (read1 (c .before .before .before)) _ _ _ (c .before .before .next-operand2 .ensures .0) (c .if2 .left)
+
+read3 : (c : tie.Else3) → Left flowWidths (wordsOf (drop (c .before .before .before .before .before .before .before .before .before .before .args .from) (c .before .before .before .before .before .before .before .before .before .before .args .line .now))) 3 (65535 ∷ []) (wordsOf (drop (c .before .before .next-operand3 .result .next) (c .before .before .before .before .before .before .before .before .before .before .args .line .now)))
+read3 c = left-more _ _ 2 _ _ _ (read2 (c .before .before .before)) _ _ _ (c .before .before .next-operand3 .ensures .0) (c .if3 .left)
+
+read4 : (c : tie.Else4) → Left flowWidths (wordsOf (drop (c .before .before .before .before .before .before .before .before .before .before .before .before .before .args .from) (c .before .before .before .before .before .before .before .before .before .before .before .before .before .args .line .now))) 4 ([]) (wordsOf (drop (c .before .before .next-operand4 .result .next) (c .before .before .before .before .before .before .before .before .before .before .before .before .before .args .line .now)))
+read4 c = left-more _ _ 3 _ _ _ (read3 (c .before .before .before)) _ _ _ (c .before .before .next-operand4 .ensures .0) (c .if4 .left)
+
+next-operand-requires : tie.Need-next-operand-requires
+next-operand-requires c κs = search needs
+
+returns : tie.Need-returns
+returns c = flow-wrong _ 2 (left-wrong _ _ 0 _ _ _ (left-start flowWidths _) _ _ _ (c .before .before .next-operand .ensures .0) (c .if1 .taken)) refl
+
+next-operand-requires-2 : tie.Need-next-operand-requires-2
+next-operand-requires-2 c κs = search needs
+
+returns-2 : tie.Need-returns-2
+returns-2 c = flow-wrong _ 3 (left-wrong _ _ 1 _ _ _ (read1 (c .before .before .before)) _ _ _ (c .before .before .next-operand2 .ensures .0) (c .if2 .taken)) refl
+
+next-operand-requires-3 : tie.Need-next-operand-requires-3
+next-operand-requires-3 c κs = search needs
+
+returns-3 : tie.Need-returns-3
+returns-3 c = flow-wrong _ 4 (left-wrong _ _ 2 _ _ _ (read2 (c .before .before .before)) _ _ _ (c .before .before .next-operand3 .ensures .0) (c .if3 .taken)) refl
+
+next-operand-requires-4 : tie.Need-next-operand-requires-4
+next-operand-requires-4 c κs = search needs
+
+returns-4 : tie.Need-returns-4
+returns-4 c = flow-wrong _ 5 (left-wrong _ _ 3 _ _ _ (read3 (c .before .before .before)) _ _ _ (c .before .before .next-operand4 .ensures .0) (c .if4 .taken)) refl
+
+blank-requires : tie.Need-blank-requires
+blank-requires c κs = search needs
+
+returns-5 : tie.Need-returns-5
+returns-5 c = flow-wrong _ 6 (left-many _ _ 4 _ (read4 (c .before .before)) _ (c .before .blank .ensures) (c .if5 .taken)) refl
+
+cast-t9 : tie.Need-cast-t9
+cast-t9 c = search needs
+
+cast-t10 : tie.Need-cast-t10
+cast-t10 c = search needs
+
+cast-t11 : tie.Need-cast-t11
+cast-t11 c = search needs
+
+cast-t12 : tie.Need-cast-t12
+cast-t12 c = search needs
+
+returns-6 : tie.Need-returns-6
+returns-6 c =
+    flow-right _ _ _ _ _
+    (left-none _ _ 4 _ (read4 (c .before .before .before .before .before .before)) _ (c .before .before .before .before .before .blank .ensures) (c .before .before .before .before .if5 .left))
+    (left-value _ _ 0 _ _ _ (left-start flowWidths _) _ _ _ (c .before .before .before .before .before .before .before .before .before .before .before .before .before .before .before .before .before .next-operand .ensures .0) (c .before .before .before .before .before .before .before .before .before .before .before .before .before .before .before .if1 .left))
+    (left-value _ _ 1 _ _ _ (read1 (c .before .before .before .before .before .before .before .before .before .before .before .before .before .before .before)) _ _ _ (c .before .before .before .before .before .before .before .before .before .before .before .before .before .before .next-operand2 .ensures .0) (c .before .before .before .before .before .before .before .before .before .before .before .before .if2 .left))
+    (left-value _ _ 2 _ _ _ (read2 (c .before .before .before .before .before .before .before .before .before .before .before .before)) _ _ _ (c .before .before .before .before .before .before .before .before .before .before .before .next-operand3 .ensures .0) (c .before .before .before .before .before .before .before .before .before .if3 .left))
+    (left-value _ _ 3 _ _ _ (read3 (c .before .before .before .before .before .before .before .before .before)) _ _ _ (c .before .before .before .before .before .before .before .before .next-operand4 .ensures .0) (c .before .before .before .before .before .before .if4 .left))
+
+pub flow-line-spec : {M : Type 1} → statement M
+flow-line-spec =
+    tie.close
+    (tie.spec
+    next-operand-requires
+    returns
+    next-operand-requires-2
+    returns-2
+    next-operand-requires-3
+    returns-3
+    next-operand-requires-4
+    returns-4
+    blank-requires
+    returns-5
+    cast-t9
+    cast-t10
+    cast-t11
+    cast-t12
+    returns-6)
