@@ -1,0 +1,7 @@
+//! Tests of the repository: its samples, its guide for planners, the built programs, and what its pages count.
+
+mod guide;
+mod habits;
+pub mod places;
+mod samples;
+mod trust;
