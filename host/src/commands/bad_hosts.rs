@@ -295,7 +295,7 @@ impl BadHosts {
         self.accepted += u64::from(answer.is_ok());
     }
 
-    /// One string through the functions. Those that change the site refuse by 14 just what slotplan_mark refuses.
+    /// One string through the functions. Those that change the site refuse by 14 just what `mark` refuses.
     fn try_string(&mut self, random: &mut Random) -> Result<(), String> {
         let bytes = self.random_bytes(random);
         let mut host = self.random_host(random, &bytes);
@@ -352,7 +352,7 @@ fn random_number(operand: u32) -> u8 {
     (operand % FLOW_NUMBERS as u32) as u8
 }
 
-/// Of slotplan_schedule, slotplan_admit and slotplan_slot, where slotplan_mark refuses the bytes: a list of a wrong length is
+/// Of `schedule`, `admit` and `slot`, where `mark` refuses the bytes: a list of a wrong length is
 /// judged before them.
 fn expected_refusals(marked: Answer, lengths: [bool; 2]) -> [Answer; 3] {
     let [admitted, passed] = lengths.map(|right| refuse(if right { 14 } else { 1 }, 0));

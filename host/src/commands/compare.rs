@@ -4,7 +4,11 @@ use crate::commands::compare_typed::Typed;
 use crate::commands::outcomes::{Tally, CALLS, GAP_LISTS, PLANS, SCHEDULES, SITES};
 use crate::programs::chart::compare_picture;
 use crate::programs::lines::first_difference;
-use crate::programs::output::{answered_lines, hex, printed, slotplan, REHEARSE};
+use crate::programs::names::{
+    CALL_LINES, CHART, GAP_LINES, PLAN_LINES, READ_SCHEDULE, REHEARSE, SCHEDULE_LINES, SITE_LINES,
+    SLOTPLAN,
+};
+use crate::programs::output::{answered_lines, hex, printed, slotplan};
 use crate::programs::rehearse_lines::{cannot_open, USAGE};
 use crate::programs::running::{printed_text, run, Printed};
 use crate::programs::schedule_lines::readschedule;
@@ -196,14 +200,14 @@ impl Comparison {
     fn new(folder: &Path) -> Comparison {
         let feed = |name, heading, calls| Feed::new(name, folder, Tally::new(heading, calls));
         Comparison {
-            slotplan: folder.join("slotplan"),
-            chart: folder.join("chart"),
-            readschedule: folder.join("readschedule"),
-            vectors: feed("test_vectors", "plans", PLANS),
-            altered: feed("test_altered", "altered sites", SITES),
-            deals: feed("test_deals", "gap lists", GAP_LISTS),
-            calls: feed("test_calls", "calls", CALLS),
-            schedules: feed("test_schedules", "schedules", SCHEDULES),
+            slotplan: folder.join(SLOTPLAN),
+            chart: folder.join(CHART),
+            readschedule: folder.join(READ_SCHEDULE),
+            vectors: feed(PLAN_LINES, "plans", PLANS),
+            altered: feed(SITE_LINES, "altered sites", SITES),
+            deals: feed(GAP_LINES, "gap lists", GAP_LISTS),
+            calls: feed(CALL_LINES, "calls", CALLS),
+            schedules: feed(SCHEDULE_LINES, "schedules", SCHEDULES),
             rehearse: Rehearse::new(folder),
             typed: Typed::new(folder),
         }
@@ -314,7 +318,20 @@ mod tests {
     use crate::commands::outcomes::CALLS_WITHOUT_LINKS;
     use crate::programs::output::Answered;
     use crate::random::calls::call_lines_on;
+    use crate::repository::built::built_programs;
     use crate::second::bytes::{read_plan, END};
+
+    /// These take a few seconds once the programs are built.
+    const RANDOM_PLANS: u64 = 300;
+
+    /// The command `random`, with fewer plans.
+    #[test]
+    fn built_programs_answer_random_inputs_alike() {
+        let mut comparison = Comparison::new(&built_programs());
+        assert_eq!(comparison.missing(), [""; 0].map(Path::new));
+        let result = comparison.run(RANDOM_PLANS, &mut Random::from_seed(48));
+        assert!(result.is_ok(), "{}", result.unwrap_err());
+    }
 
     #[test]
     fn random_plans_meet_every_outcome() {
@@ -337,7 +354,7 @@ mod tests {
         let mut tally = Tally::new("", CALLS);
         for _ in 0..600 {
             let lines = call_lines(&mut random);
-            let lines = answered_lines("test_calls", lines.as_bytes()).unwrap();
+            let lines = answered_lines(CALL_LINES, lines.as_bytes()).unwrap();
             lines.iter().for_each(|line| tally.count(line));
         }
         assert!(tally.all_reach(10), "{tally}");
@@ -349,7 +366,7 @@ mod tests {
         let mut tally = Tally::new("", CALLS_WITHOUT_LINKS);
         for _ in 0..600 {
             let lines = call_lines_on(&mut random, &[END]);
-            let lines = answered_lines("test_calls", lines.as_bytes()).unwrap();
+            let lines = answered_lines(CALL_LINES, lines.as_bytes()).unwrap();
             lines.iter().for_each(|line| tally.count(line));
         }
         assert!(tally.all_reach(3), "{tally}");
@@ -361,7 +378,7 @@ mod tests {
         let mut tally = Tally::new("", SITES);
         for _ in 0..600 {
             let lines = altered_lines(&mut random);
-            let lines = answered_lines("test_altered", lines.as_bytes()).unwrap();
+            let lines = answered_lines(SITE_LINES, lines.as_bytes()).unwrap();
             lines.iter().for_each(|line| tally.count(line));
         }
         assert!(tally.all_reach(10), "{tally}");
@@ -373,7 +390,7 @@ mod tests {
         let mut tally = Tally::new("", SCHEDULES);
         for _ in 0..2000 {
             let (_, lines) = schedule_lines(&mut random);
-            let lines = answered_lines("test_schedules", lines.as_bytes()).unwrap();
+            let lines = answered_lines(SCHEDULE_LINES, lines.as_bytes()).unwrap();
             lines.iter().for_each(|line| tally.count(line));
         }
         assert!(tally.all_reach(10), "{tally}");

@@ -2,7 +2,8 @@
 
 use crate::commands::compare::{compare_both, compare_one};
 use crate::commands::outcomes::{Tally, TEXTS};
-use crate::programs::output::{Answered, ASSEMBLE, LISTING};
+use crate::programs::names::{ASSEMBLE, LISTING};
+use crate::programs::output::Answered;
 use crate::programs::running::Printed;
 use crate::random::generator::Random;
 use crate::random::typed::random_text;

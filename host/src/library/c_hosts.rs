@@ -1,6 +1,6 @@
 //! Tests of the library as a C compiler sees it: the header alone, and a host in C.
 
-use crate::library::compiled::ARCHIVE;
+use crate::library::compiled::{ARCHIVE, HEADER};
 use crate::programs::lines::first_difference;
 use crate::repository::places::{read_text, top, Folder};
 use std::fs;
@@ -51,7 +51,7 @@ fn the_example_prints_what_is_stored() {
 fn the_header_compiles_alone() {
     let folder = Folder::new("header");
     let source = folder.0.join("header.c");
-    let text = "#include \"slotplan.h\"\n#include \"slotplan.h\"\n";
+    let text = format!("#include \"{HEADER}\"\n").repeat(2);
     fs::write(&source, text).unwrap();
     let source = source.to_str().unwrap();
     for standard in ["-std=c99", "-std=c11"] {

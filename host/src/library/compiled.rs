@@ -1,10 +1,14 @@
-//! The library for lane controllers, `embed`, as compiled: its functions as `include/slotplan.h` declares them, and a safe wrapper of each.
+//! The library for lane controllers as compiled: its functions as its header declares them, and a safe wrapper of each.
 //! A slice of Rust is all that the header asks of a host: valid, aligned, of the length that goes with it, and not overlapped where it is lent `&mut`.
 
 use crate::second::rules::Refusal;
 
 /// The file that this program is linked with.
 pub const ARCHIVE: &str = env!("SLOTPLAN_ARCHIVE");
+
+/// The file in include/ that declares the functions for C.
+#[cfg(test)]
+pub const HEADER: &str = "slotplan.h";
 
 pub mod declared {
     extern "C" {

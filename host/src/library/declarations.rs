@@ -1,5 +1,6 @@
-//! A test that the functions of the crate `embed`, the prototypes of the header and the declarations in `compiled.rs` agree.
+//! A test that the functions of the library's crate, the prototypes of the header and the declarations in `compiled.rs` agree.
 
+use crate::library::compiled::HEADER;
 use crate::repository::places::{read_text, top};
 
 /// A function with the types of its parameters and of its answer, as Rust writes them.
@@ -141,11 +142,14 @@ fn declared_in(path: &str, read: fn(&str) -> Option<Vec<Declared>>) -> Vec<Decla
 
 #[test]
 fn the_crate_the_header_and_this_program_declare_the_same() {
-    let header = declared_in("include/slotplan.h", of_header);
+    let header = declared_in(&format!("include/{HEADER}"), of_header);
     let host = declared_in("host/src/library/compiled.rs", of_extern_block);
     assert_eq!(header, host);
     assert_eq!(header.len(), 11);
-    let of_crate = declared_in("crates/embed/src/lib.rt", of_crate);
+    let of_crate = declared_in(
+        concat!("crates/", env!("SLOTPLAN_CRATE"), "/src/lib.rt"),
+        of_crate,
+    );
     assert_eq!(of_crate, header);
 }
 

@@ -1,4 +1,4 @@
-//! The eleven functions of `include/slotplan.h` by implementation, so that one can take the place of another. All are called through a
+//! The eleven functions of the header by implementation, so that one can take the place of another. All are called through a
 //! pointer, so that none is built into the caller.
 
 use crate::library::compiled::{self, Answer, NewFlow};

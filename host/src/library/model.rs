@@ -1,4 +1,4 @@
-//! The eleven functions of `include/slotplan.h`, made of this implementation. The order of the checks is the header's.
+//! The eleven functions of the header, made of the second implementation. The order of the checks is the header's.
 
 use crate::library::compiled::{Answer, NewFlow};
 use crate::second::bytes::{self, read_plan, write_plan};

@@ -1,4 +1,4 @@
-//! The functions of `include/slotplan.h` in plain Rust, for comparison with the compiled library in time: the plan bytes are read
+//! The functions of the library in plain Rust, for comparison with the compiled library in time: the plan bytes are read
 //! into fixed arrays and judged once, then the call runs on these arrays and writes the new bytes straight into the lent buffer.
 
 mod rule;

@@ -3,6 +3,7 @@
 pub mod call_lines;
 pub mod chart;
 pub mod lines;
+pub mod names;
 pub mod output;
 pub mod rehearse_lines;
 pub mod running;

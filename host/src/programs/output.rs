@@ -1,6 +1,10 @@
 //! What each program prints for an input.
 
 use crate::programs::call_lines::Desk;
+use crate::programs::names::{
+    CALL_LINES, GAP_LINES, LISTING, PLAN_LINES, PLAN_PROGRAMS, READ_SCHEDULE, SCHEDULE_LINES,
+    SITE_LINES, SLOTPLAN,
+};
 use crate::programs::schedule_lines::{readschedule, schedules_line};
 use crate::second::bytes::{
     passes_check_14, read_plan, write_plan, write_schedule, written, COMMAND_LENGTH,
@@ -8,32 +12,6 @@ use crate::second::bytes::{
 use crate::second::rules::{refused, slot_rule, Refusal, Site, OF_16_BITS, OF_8_BITS};
 use crate::second::schedules::Schedule;
 use crate::second::typed::listing;
-
-/// The programs with a stored input and output, in crates of these names.
-pub const PROGRAMS: &[&str] = &[
-    "slotplan",
-    "test_figures",
-    "test_bounds",
-    "test_overlong",
-    "test_wired",
-    "test_vectors",
-    "test_altered",
-    "test_deals",
-    "test_calls",
-    "readschedule",
-    "test_schedules",
-    REHEARSE,
-    LISTING,
-    ASSEMBLE,
-];
-
-/// The program that is given a plan in a file besides its input.
-pub const REHEARSE: &str = "rehearse";
-
-pub const LISTING: &str = "listing";
-
-/// The program that prints plan bytes.
-pub const ASSEMBLE: &str = "assemble";
 
 /// A line of input and what is printed for it.
 pub struct Answered {
@@ -44,11 +22,10 @@ pub struct Answered {
 /// For the programs that print text. The error is about an input outside the form that the program reads.
 pub fn output(program: &str, input: &[u8]) -> Result<String, String> {
     match program {
-        "slotplan" | "test_figures" | "test_bounds" | "test_overlong" | "test_wired" => {
-            Ok(slotplan(input))
-        }
-        "readschedule" => Ok(readschedule(input)),
+        SLOTPLAN => Ok(slotplan(input)),
+        READ_SCHEDULE => Ok(readschedule(input)),
         LISTING => Ok(listing(input)),
+        _ if PLAN_PROGRAMS.contains(&program) => Ok(slotplan(input)),
         _ => Ok(printed(&answered_lines(program, input)?)),
     }
 }
@@ -62,11 +39,11 @@ pub fn answered_lines(program: &str, input: &[u8]) -> Result<Vec<Answered>, Stri
     let (mut site, mut desk) = (Site::empty(), Desk::new());
     let mut schedule = Schedule::empty();
     match program {
-        "test_vectors" => each_line(input, vectors_line),
-        "test_altered" => each_line(input, |line| altered_line(&mut site, line)),
-        "test_deals" => each_line(input, deals_line),
-        "test_calls" => each_line(input, |line| desk.line(line)),
-        "test_schedules" => each_line(input, |line| schedules_line(&mut schedule, line)),
+        PLAN_LINES => each_line(input, vectors_line),
+        SITE_LINES => each_line(input, |line| altered_line(&mut site, line)),
+        GAP_LINES => each_line(input, deals_line),
+        CALL_LINES => each_line(input, |line| desk.line(line)),
+        SCHEDULE_LINES => each_line(input, |line| schedules_line(&mut schedule, line)),
         _ => Err(format!("no program {program}")),
     }
 }
@@ -295,7 +272,7 @@ mod tests {
     fn slotplan_prints_a_plan_without_links_in_one_line() {
         let expected = "accepted links 0 flows 0\n";
         assert_eq!(slotplan(&[0xFF]), expected);
-        assert_eq!(output("test_wired", &[0xFF]).unwrap(), expected);
+        assert_eq!(output(PLAN_PROGRAMS[3], &[0xFF]).unwrap(), expected);
         assert_eq!(slotplan(&[0xFF, 0x0A]), "refused 10 1\n");
     }
 
@@ -305,7 +282,7 @@ mod tests {
         let expected = "# a remark\nrefused 2 0\naccepted links 3 plan 25 equal schedule 19 \
             11 01 00 00 04 00 11 02 01 00 04 00 11 03 00 00 03 00 FF\n\
             accepted links 0 plan 1 equal schedule 1 FF\nrefused 10 1\n";
-        assert_eq!(output_of("test_vectors", &input), expected);
+        assert_eq!(output_of(PLAN_LINES, &input), expected);
     }
 
     #[test]
@@ -318,7 +295,7 @@ mod tests {
             "does not pass, plan refused 14 0:, schedule refused 14 0:\n",
             "passes, plan refused 1 0:, schedule refused 1 0:\n",
         ];
-        assert_eq!(output_of("test_altered", &input), answers.concat());
+        assert_eq!(output_of(SITE_LINES, &input), answers.concat());
     }
 
     #[test]
@@ -332,7 +309,7 @@ mod tests {
             does not pass, plan refused 14 0: 64 65 66 67 68 69 6A 6B 6C, \
             schedule refused 14 0: 64 65 66 67 68 69 6A 6B 6C\n\
             does not pass, plan refused 14 0:, schedule refused 14 0:\n";
-        assert_eq!(output_of("test_altered", &input), expected);
+        assert_eq!(output_of(SITE_LINES, &input), expected);
     }
 
     #[test]
@@ -342,7 +319,7 @@ mod tests {
             refused 1 0 offsets 500 periods 700 701\n\
             refused 11 0 offsets 500 501 periods 700 701\n\
             refused 5 0 offsets periods\n";
-        assert_eq!(output_of("test_deals", input), expected);
+        assert_eq!(output_of(GAP_LINES, input), expected);
     }
 
     #[test]
@@ -356,7 +333,7 @@ mod tests {
             accepted site 6 5 0 7 5 0 8 5 0 9 5 0 \
             counters 45 0 46 0 47 0 48 0 49 0 50 0 51 0 52 0 53 0\n\
             sender 2\n";
-        assert_eq!(output_of("test_calls", &input), expected);
+        assert_eq!(output_of(CALL_LINES, &input), expected);
     }
 
     #[test]
@@ -367,7 +344,7 @@ mod tests {
             refused 16 0 site counters\nsender 0\nrefused 6 0\naccepted counters\n\
             refused 20 7 counters\nrefused 14 0 site counters\nrefused 14 0\n\
             refused 14 0 counters\n";
-        assert_eq!(output_of("test_calls", input), expected);
+        assert_eq!(output_of(CALL_LINES, input), expected);
     }
 
     #[test]
@@ -380,7 +357,7 @@ mod tests {
         let expected = "accepted counters 0 5 1 6 8 13\naccepted counters 0 8 1 0 8 19\n\
             refused 1 0 counters\nrefused 1 0 counters\nrefused 19 0 counters\n\
             refused 20 5 counters\naccepted counters 0 9\nrefused 14 0 counters\n";
-        assert_eq!(output_of("test_calls", &input), expected);
+        assert_eq!(output_of(CALL_LINES, &input), expected);
     }
 
     #[test]
@@ -393,7 +370,7 @@ mod tests {
         let expected = format!(
             "refused 1 0 counters\nrefused 1 0 counters\nrefused 14 0 counters\naccepted counters{cleared}\n"
         );
-        assert_eq!(output_of("test_calls", &input), expected);
+        assert_eq!(output_of(CALL_LINES, &input), expected);
     }
 
     #[test]
@@ -424,7 +401,7 @@ mod tests {
         ];
         for line in lines {
             assert!(
-                output("test_calls", format!("{line}\n").as_bytes()).is_err(),
+                output(CALL_LINES, format!("{line}\n").as_bytes()).is_err(),
                 "{line}"
             );
         }

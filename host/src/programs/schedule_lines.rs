@@ -81,6 +81,7 @@ pub fn change(schedule: &mut Schedule, numbers: &[u64]) {
 #[cfg(test)]
 mod tests {
     use super::*;
+    use crate::programs::names::{READ_SCHEDULE, SCHEDULE_LINES};
     use crate::programs::output::output;
     use crate::second::rules::MOST_LINKS;
 
@@ -89,7 +90,7 @@ mod tests {
 
     fn printed(lines: &[&str]) -> String {
         let input: String = lines.iter().map(|line| format!("{line}\n")).collect();
-        output("test_schedules", input.as_bytes()).unwrap()
+        output(SCHEDULE_LINES, input.as_bytes()).unwrap()
     }
 
     #[test]
@@ -100,7 +101,7 @@ mod tests {
             link 3 offset 0 period 3\n\
             accepted links 3\n";
         assert_eq!(readschedule(&file), expected);
-        assert_eq!(output("readschedule", &file).unwrap(), expected);
+        assert_eq!(output(READ_SCHEDULE, &file).unwrap(), expected);
         assert_eq!(readschedule(&file[..18]), "refused 2 18\n");
         assert_eq!(readschedule(&[0xFF]), "accepted links 0\n");
         assert_eq!(readschedule(&[0xFF, 0x0A]), "refused 10 1\n");
@@ -187,7 +188,7 @@ mod tests {
     fn lines_outside_the_form_are_errors() {
         let long = "11 ".repeat(2049);
         for line in ["W", "W x", "W 1 x", "1", "0a", &long] {
-            let answer = output("test_schedules", format!("{line}\n").as_bytes());
+            let answer = output(SCHEDULE_LINES, format!("{line}\n").as_bytes());
             assert!(answer.is_err(), "{line}");
         }
     }

@@ -112,7 +112,7 @@ pub fn gap_list(random: &mut Random, count: usize) -> Vec<u64> {
     gaps
 }
 
-/// A line for the program test_deals.
+/// A line for the test program of the slot rule.
 pub fn deals_line(random: &mut Random) -> String {
     let count = gap_count(random);
     let gaps = gap_list(random, count);

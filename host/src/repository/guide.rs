@@ -2,13 +2,14 @@
 
 use crate::commands::outcomes::refusal_numbers;
 use crate::programs::lines::first_difference;
+use crate::programs::names::{ASSEMBLE, CHART, LISTING, REHEARSE, SLOTPLAN};
+use crate::repository::built::built_programs;
 use crate::repository::places::{read_text, top, Folder};
 use std::collections::BTreeSet;
 use std::fs::{self, File};
 use std::os::unix::fs::symlink;
 use std::path::{Path, PathBuf};
 use std::process::{Command, Stdio};
-use std::sync::OnceLock;
 
 const GUIDE: &str = "docs/PLANNERS.md";
 
@@ -21,10 +22,7 @@ const PROMPT: &str = "$ ";
 const BUILDING: &str = "rt check ";
 
 /// The programs for planners: the guide shows each of them at work.
-const SHOWN: [&str; 5] = ["assemble", "slotplan", "chart", "rehearse", "listing"];
-
-/// These are built for the tests of the programs' habits too.
-const BUILT_BESIDES: &str = "rt check readschedule";
+const SHOWN: [&str; 5] = [ASSEMBLE, SLOTPLAN, CHART, REHEARSE, LISTING];
 
 /// A fenced block. Lines are counted from 1.
 struct Block<'a> {
@@ -262,34 +260,11 @@ fn building(commands: &[Shown]) -> Result<&Shown, String> {
     }
 }
 
-fn succeed_at_the_top(command: &str) -> Result<(), String> {
-    let run = Command::new("sh")
-        .args(["-c", command])
-        .current_dir(top())
-        .output();
-    let output = run.map_err(|error| format!("sh: {error}"))?;
-    if output.status.success() {
-        return Ok(());
-    }
-    let printed = [output.stdout, output.stderr].concat();
-    let printed = String::from_utf8_lossy(&printed).into_owned();
-    Err(format!("`{command}`: {}\n{printed}", output.status))
-}
-
-fn build() -> Result<(), String> {
+/// The guide's own command that builds.
+pub fn building_command() -> Result<String, String> {
     let text = read_text(&top().join(GUIDE));
     let commands = Page::of_text(&text)?.commands()?;
-    succeed_at_the_top(&building(&commands)?.command)?;
-    succeed_at_the_top(BUILT_BESIDES)
-}
-
-/// The folder of the programs, built by the guide's own command, once for all tests.
-pub fn built_programs() -> PathBuf {
-    static BUILT: OnceLock<Result<(), String>> = OnceLock::new();
-    if let Err(error) = BUILT.get_or_init(build) {
-        panic!("{error}");
-    }
-    top().join("target/bin")
+    Ok(building(&commands)?.command.clone())
 }
 
 /// Everything that the page says wrongly: paths, refusals and programs that are missing.

@@ -1,20 +1,21 @@
 //! Tests of the built programs' habits: wrong arguments are told in one line on standard error, and no input keeps a program from its end.
 
-use crate::programs::output::{output, ASSEMBLE, REHEARSE};
+use crate::programs::names::{ASSEMBLE, CHART, LISTING, READ_SCHEDULE, REHEARSE, SLOTPLAN};
+use crate::programs::output::output;
 use crate::programs::rehearse_lines::{cannot_open, rehearse, USAGE};
 use crate::programs::running::{run, Printed};
-use crate::repository::guide::built_programs;
+use crate::repository::built::built_programs;
 use crate::repository::places::{read, top};
 use crate::second::typed::assemble;
 use std::path::{Path, PathBuf};
 
 /// The programs that take no argument and read standard input alone, with what they tell of an argument, or how that begins.
 const WITHOUT_ARGUMENTS: [(&str, &str); 5] = [
-    ("slotplan", "usage: slotplan < PLAN"),
-    ("readschedule", "usage: readschedule < SCHEDULE"),
-    ("listing", "usage: listing < PLAN > TEXT"),
+    (SLOTPLAN, "usage: slotplan < PLAN"),
+    (READ_SCHEDULE, "usage: readschedule < SCHEDULE"),
+    (LISTING, "usage: listing < PLAN > TEXT"),
     (ASSEMBLE, "usage: assemble < TEXT > PLAN"),
-    ("chart", "usage: chart"),
+    (CHART, "usage: chart"),
 ];
 
 fn sample_plan() -> PathBuf {
@@ -114,7 +115,7 @@ fn endless_inputs() -> [Vec<u8>; 4] {
 /// None for chart, of which only the end is awaited here.
 fn expected(program: &str, input: &[u8]) -> Option<Printed> {
     let out = match program {
-        "chart" => return None,
+        CHART => return None,
         REHEARSE => rehearse(Some(&read(&sample_plan())), input).0.into_bytes(),
         ASSEMBLE => match assemble(input) {
             Ok(plan) => plan,

@@ -1,5 +1,6 @@
 //! Tests of the repository: its samples, its guide for planners, the built programs, and what its pages count.
 
+pub mod built;
 mod guide;
 mod habits;
 pub mod places;
