@@ -1,6 +1,7 @@
-//! Tests of the repository: its samples, its guide for planners, the built programs, and what its pages count.
+//! Tests of the repository: its samples, its guide for planners, the built programs, its gate, and what its pages count.
 
 pub mod built;
+mod gate;
 mod guide;
 mod habits;
 pub mod places;
