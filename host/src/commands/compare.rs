@@ -16,7 +16,7 @@ use crate::random::calls::call_lines;
 use crate::random::damage::random_plan;
 use crate::random::gaps::deals_line;
 use crate::random::generator::Random;
-use crate::random::runs::Sessions;
+use crate::random::runs::Runs;
 use crate::random::schedules::schedule_lines;
 use crate::random::sites::altered_lines;
 use std::fs;
@@ -136,11 +136,11 @@ pub fn compare_both(
     }
 }
 
-/// rehearse, which reads its plan from a file, so it is run for each session.
+/// rehearse, which reads its plan from a file, so it is started for each run.
 struct Rehearse {
     program: PathBuf,
     plan: PathBuf,
-    sessions: Sessions,
+    runs: Runs,
 }
 
 impl Rehearse {
@@ -149,7 +149,7 @@ impl Rehearse {
         Rehearse {
             program: folder.join(REHEARSE),
             plan: std::env::temp_dir().join(plan),
-            sessions: Sessions::new(),
+            runs: Runs::new(),
         }
     }
 
@@ -165,19 +165,19 @@ impl Rehearse {
     }
 
     fn compare(&mut self, random: &mut Random) -> Result<(), String> {
-        let session = self.sessions.add(random)?;
-        fs::write(&self.plan, &session.plan).map_err(|error| error.to_string())?;
+        let run = self.runs.add(random)?;
+        fs::write(&self.plan, &run.plan).map_err(|error| error.to_string())?;
         let case = Case {
-            input: session.shown(),
-            expected: session.expected(),
+            input: run.shown(),
+            expected: run.expected(),
         };
-        let input = session.input();
+        let input = run.input();
         compare(&self.program, &[&self.plan], input.as_bytes(), &[case])
     }
 }
 
 impl Drop for Rehearse {
-    /// The file is missing if no session was compared, and then there is nothing to remove.
+    /// The file is missing if no run was compared, and then there is nothing to remove.
     fn drop(&mut self) {
         let _ = fs::remove_file(&self.plan);
     }
@@ -268,7 +268,7 @@ impl Comparison {
             print!("{}", feed.tally);
         }
         print!("{}", self.typed.tally);
-        print!("{}", self.rehearse.sessions);
+        print!("{}", self.rehearse.runs);
     }
 }
 
@@ -303,12 +303,12 @@ pub fn compare_random(count: u64, seed: u64, folder: &Path) -> u8 {
     status_of(result, "no difference")
 }
 
-/// Random sessions of this implementation alone. The exit status: 0, or 1 if the watch objects.
+/// Random runs of this implementation alone. The exit status: 0, or 1 if the watch objects.
 pub fn watch_random(count: u64, seed: u64) -> u8 {
-    let (mut sessions, mut random) = (Sessions::new(), Random::from_seed(seed));
-    let result = (0..count).try_for_each(|_| sessions.add(&mut random).map(drop));
-    print!("{sessions}");
-    println!("seed {seed}, {count} random sessions");
+    let (mut runs, mut random) = (Runs::new(), Random::from_seed(seed));
+    let result = (0..count).try_for_each(|_| runs.add(&mut random).map(drop));
+    print!("{runs}");
+    println!("seed {seed}, {count} random runs");
     status_of(result, "no objection")
 }
 

@@ -105,7 +105,7 @@ pub const CALLS_WITHOUT_LINKS: &[Call] = &[
 ];
 
 /// The calls of rehearse. Its site passes check 14, and it lends lists of the right lengths.
-pub const SESSIONS: &[Call] = &[
+pub const RUNS: &[Call] = &[
     call(["start", "start "], ACCEPTED, &[]),
     call(["slot", "slot "], ACCEPTED, &[20]),
     call(["admit", "admission "], ACCEPTED, &[5, 6, 15, 17, 18]),
@@ -122,7 +122,7 @@ pub const SESSIONS: &[Call] = &[
 
 /// The calls of rehearse on the plan of END alone.
 #[cfg(test)]
-pub const SESSIONS_WITHOUT_LINKS: &[Call] = &[
+pub const RUNS_WITHOUT_LINKS: &[Call] = &[
     call(["start", "start "], ACCEPTED, &[]),
     call(["slot", "slot "], ACCEPTED, &[20]),
     call(["admit", "admission "], &[], &[5, 6]),

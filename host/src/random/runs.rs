@@ -1,6 +1,6 @@
-//! Random sessions for rehearse, with what it has to print and with what the watch saw.
+//! Random runs of rehearse, with what it has to print and with what the watch saw.
 
-use crate::commands::outcomes::{Tally, SESSIONS};
+use crate::commands::outcomes::{Tally, RUNS};
 use crate::commands::rehearsal::Rehearsal;
 use crate::commands::watch::{Objection, Record};
 use crate::programs::output::{hex, printed, Answered};
@@ -16,7 +16,7 @@ use crate::second::rules::{Site, FLOW_NUMBERS};
 use crate::second::words::words;
 use std::fmt;
 
-pub struct Session {
+pub struct Run {
     pub plan: Vec<u8>,
     /// The line printed for the plan.
     pub first: String,
@@ -25,7 +25,7 @@ pub struct Session {
     pub objection: Option<Objection>,
 }
 
-impl Session {
+impl Run {
     /// The last line has no newline, but it may be empty.
     pub fn input(&self) -> String {
         let lines: Vec<&str> = self.lines.iter().map(|line| line.line.as_str()).collect();
@@ -42,33 +42,33 @@ impl Session {
     }
 }
 
-/// Sessions one after the other, with what was met in all of them.
-pub struct Sessions {
+/// Runs one after the other, with what was met in all of them.
+pub struct Runs {
     tally: Tally,
     record: Record,
 }
 
-impl Sessions {
-    pub fn new() -> Sessions {
-        Sessions {
-            tally: Tally::new("lines of rehearse", SESSIONS),
+impl Runs {
+    pub fn new() -> Runs {
+        Runs {
+            tally: Tally::new("lines of rehearse", RUNS),
             record: Record::default(),
         }
     }
 
-    /// One session more. The error is what the watch objects to in it.
-    pub fn add(&mut self, random: &mut Random) -> Result<Session, String> {
-        let session = random_session(random);
-        session.lines.iter().for_each(|line| self.tally.count(line));
-        self.record.add(&session.record);
-        match session.objection {
-            Some(objection) => Err(format!("{objection}\ninput:\n{}", session.shown())),
-            None => Ok(session),
+    /// One run more. The error is what the watch objects to in it.
+    pub fn add(&mut self, random: &mut Random) -> Result<Run, String> {
+        let run = random_run(random);
+        run.lines.iter().for_each(|line| self.tally.count(line));
+        self.record.add(&run.record);
+        match run.objection {
+            Some(objection) => Err(format!("{objection}\ninput:\n{}", run.shown())),
+            None => Ok(run),
         }
     }
 }
 
-impl fmt::Display for Sessions {
+impl fmt::Display for Runs {
     fn fmt(&self, form: &mut fmt::Formatter) -> fmt::Result {
         write!(form, "{}watched:\n{}", self.tally, self.record)
     }
@@ -85,14 +85,14 @@ enum Traffic {
 
 const TRAFFIC: [Traffic; 3] = [Traffic::AtRate, Traffic::UpToRate, Traffic::Lone];
 
-fn random_session(random: &mut Random) -> Session {
+fn random_run(random: &mut Random) -> Run {
     let plan = plan_to_rehearse(random);
-    session_on(random, plan)
+    run_on(random, plan)
 }
 
-fn session_on(random: &mut Random, plan: Vec<u8>) -> Session {
+fn run_on(random: &mut Random, plan: Vec<u8>) -> Run {
     let (first, rehearsal) = begin(&plan);
-    let mut session = Session {
+    let mut run = Run {
         plan,
         first,
         lines: Vec::new(),
@@ -102,13 +102,13 @@ fn session_on(random: &mut Random, plan: Vec<u8>) -> Session {
     if let Some(rehearsal) = rehearsal {
         let mut script = Script::new(random, rehearsal);
         script.write();
-        session.record = script.rehearsal.watch.close();
-        session.objection = script.rehearsal.watch.objections.first().copied();
-        session.lines = script.lines;
+        run.record = script.rehearsal.watch.close();
+        run.objection = script.rehearsal.watch.objections.first().copied();
+        run.lines = script.lines;
     } else {
-        session.lines.push(unanswered("start"));
+        run.lines.push(unanswered("start"));
     }
-    session
+    run
 }
 
 /// rehearse ends after a refused plan.
@@ -119,7 +119,7 @@ fn unanswered(line: &str) -> Answered {
     }
 }
 
-/// Mostly a plan with a flow whose bound is short enough to be met in a session; a few that are refused, and a few of END alone.
+/// Mostly a plan with a flow whose bound is short enough to be met in a run; a few that are refused, and a few of END alone.
 fn plan_to_rehearse(random: &mut Random) -> Vec<u8> {
     if random.chance(5) {
         return random_plan(random);
@@ -136,7 +136,7 @@ fn plan_to_rehearse(random: &mut Random) -> Vec<u8> {
     }
 }
 
-/// A session while its lines are written.
+/// A run while its lines are written.
 struct Script<'a> {
     random: &'a mut Random,
     rehearsal: Rehearsal,
@@ -371,19 +371,19 @@ fn odd_form(random: &mut Random, mut line: String) -> String {
 #[cfg(test)]
 mod tests {
     use super::*;
-    use crate::commands::outcomes::SESSIONS_WITHOUT_LINKS;
+    use crate::commands::outcomes::RUNS_WITHOUT_LINKS;
     use crate::programs::rehearse_lines::rehearse;
     use crate::second::bytes::read_plan;
     use crate::second::former::read_formerly;
 
     #[test]
-    fn random_sessions_meet_every_outcome_and_both_bounds() {
+    fn random_runs_meet_every_outcome_and_both_bounds() {
         let mut random = Random::from_seed(10);
-        let mut sessions = Sessions::new();
+        let mut runs = Runs::new();
         for _ in 0..600 {
-            assert_eq!(sessions.add(&mut random).err(), None);
+            assert_eq!(runs.add(&mut random).err(), None);
         }
-        let (tally, record) = (sessions.tally, sessions.record);
+        let (tally, record) = (runs.tally, runs.record);
         assert!(tally.all_reach(10), "{tally}");
         assert!(record.flows_at_bound >= 100, "{record}");
         assert!(record.flows_full >= 100, "{record}");
@@ -392,13 +392,13 @@ mod tests {
 
     /// 02, U2: a flow admitted thanks to periods has every packet through within G. The watch does not object to any.
     #[test]
-    fn many_sessions_have_plans_that_wanted_gaps_would_refuse() {
+    fn many_runs_have_plans_that_wanted_gaps_would_refuse() {
         let (mut random, mut record, mut plans) = (Random::from_seed(35), Record::default(), 0);
         for _ in 0..300 {
-            let session = random_session(&mut random);
-            assert_eq!(session.objection, None);
-            if read_plan(&session.plan).is_ok() && read_formerly(&session.plan).is_err() {
-                record.add(&session.record);
+            let run = random_run(&mut random);
+            assert_eq!(run.objection, None);
+            if read_plan(&run.plan).is_ok() && read_formerly(&run.plan).is_err() {
+                record.add(&run.record);
                 plans += 1;
             }
         }
@@ -409,16 +409,16 @@ mod tests {
     }
 
     #[test]
-    fn random_sessions_meet_every_outcome_without_links() {
+    fn random_runs_meet_every_outcome_without_links() {
         let mut random = Random::from_seed(38);
         let plans: Vec<_> = (0..1000).map(|_| plan_to_rehearse(&mut random)).collect();
         let alone = plans.iter().filter(|&plan| *plan == [END]).count();
         assert!(alone >= 40, "{alone}");
-        let mut tally = Tally::new("", SESSIONS_WITHOUT_LINKS);
+        let mut tally = Tally::new("", RUNS_WITHOUT_LINKS);
         for _ in 0..100 {
-            let session = session_on(&mut random, vec![END]);
-            assert_eq!(session.objection, None);
-            session.lines.iter().for_each(|line| tally.count(line));
+            let run = run_on(&mut random, vec![END]);
+            assert_eq!(run.objection, None);
+            run.lines.iter().for_each(|line| tally.count(line));
         }
         assert!(tally.all_reach(3), "{tally}");
     }
@@ -426,8 +426,8 @@ mod tests {
     #[test]
     fn many_calls_have_tabs_and_carriage_returns() {
         let mut random = Random::from_seed(45);
-        let sessions = (0..100).map(|_| random_session(&mut random));
-        let lines: Vec<Answered> = sessions.flat_map(|session| session.lines).collect();
+        let runs = (0..100).map(|_| random_run(&mut random));
+        let lines: Vec<Answered> = runs.flat_map(|run| run.lines).collect();
         for sign in ["\t", "\r"] {
             let answers = ["accepted", "refused", "cells", "bound", "sender", "error"];
             for begin in answers {
@@ -439,12 +439,12 @@ mod tests {
     }
 
     #[test]
-    fn a_session_is_what_rehearse_prints_for_its_input() {
+    fn a_run_is_what_rehearse_prints_for_its_input() {
         let mut random = Random::from_seed(11);
         for _ in 0..60 {
-            let session = random_session(&mut random);
-            let (output, _) = rehearse(Some(&session.plan), session.input().as_bytes());
-            assert_eq!(output, session.expected());
+            let run = random_run(&mut random);
+            let (output, _) = rehearse(Some(&run.plan), run.input().as_bytes());
+            assert_eq!(output, run.expected());
         }
     }
 }
