@@ -1,62 +1,16 @@
 //! A second implementation of document 01 and of U1, U2 and U3 of document 02, for comparison with the programs under crates/ and
 //! with their library.
 
-mod bad_hosts;
-mod bench;
-mod bytes;
-#[cfg(test)]
-mod c_hosts;
-mod call_lines;
-mod calls;
-mod chart;
-mod compare;
-mod compare_library;
-mod compare_typed;
-mod damage;
-#[cfg(test)]
-mod declarations;
-mod expected;
-#[cfg(test)]
-mod former;
-mod functions;
-#[cfg(test)]
-mod guide;
-#[cfg(test)]
-mod habits;
-mod host_calls;
+mod commands;
 mod library;
-mod lines;
-mod model;
-mod outcomes;
-#[cfg(test)]
-mod places;
 mod plain;
 mod programs;
 mod random;
-mod random_calls;
-mod random_gaps;
-mod random_hosts;
-mod random_plans;
-mod random_schedules;
-mod random_sessions;
-mod random_sites;
-mod random_typed;
-mod rehearsal;
-mod rehearse_lines;
-mod rules;
-mod running;
 #[cfg(test)]
-mod samples;
-mod schedule_lines;
-mod schedules;
-mod shrink;
-mod slots;
-#[cfg(test)]
-mod trust;
-mod typed;
-mod watch;
-mod words;
+mod repository;
+mod second;
 
+use commands::{bad_hosts, bench, compare, compare_library, expected};
 use std::path::Path;
 use std::process::ExitCode;
 

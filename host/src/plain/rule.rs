@@ -1,6 +1,6 @@
 //! The slot rule in few steps.
 
-use crate::rules::MOST_LINKS;
+use crate::second::rules::MOST_LINKS;
 
 /// j of 01, slot rule 2. It is small for most gaps, so that this takes less time than a division.
 fn doublings(base: u16, gap: u16) -> u16 {

@@ -1,8 +1,8 @@
 //! A schedule in fixed arrays, read and judged in one pass over the bytes.
 
 use super::check_end;
-use crate::bytes::{COMMAND_LENGTH, END, LINK};
-use crate::rules::{refuse, Refusal, MOST_LINKS};
+use crate::second::bytes::{COMMAND_LENGTH, END, LINK};
+use crate::second::rules::{refuse, Refusal, MOST_LINKS};
 
 pub struct FixedSchedule {
     pub links: usize,

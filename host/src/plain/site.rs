@@ -2,8 +2,8 @@
 
 use super::check_end;
 use super::rule::deal;
-use crate::bytes::{COMMAND_LENGTH, END, FLOW, NODE};
-use crate::rules::{refuse, Refusal, FLOW_NUMBERS, MOST_DEPTH, MOST_LINKS};
+use crate::second::bytes::{COMMAND_LENGTH, END, FLOW, NODE};
+use crate::second::rules::{refuse, Refusal, FLOW_NUMBERS, MOST_DEPTH, MOST_LINKS};
 use std::ops::Range;
 
 /// The root has number 0, so that a node's number is its index.

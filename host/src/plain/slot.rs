@@ -1,8 +1,8 @@
 //! One slot on counters that are lent.
 
 use super::site::{FixedFlow, FixedSite};
-use crate::calls::{CELLS, COUNTERS};
-use crate::rules::{refuse, Refusal, FLOW_NUMBERS, MOST_LINKS};
+use crate::second::calls::{CELLS, COUNTERS};
+use crate::second::rules::{refuse, Refusal, FLOW_NUMBERS, MOST_LINKS};
 
 pub type Counters = [u32; COUNTERS];
 pub type Arrivals = [u16; FLOW_NUMBERS];

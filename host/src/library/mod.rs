@@ -1,0 +1,11 @@
+//! The compiled library: its declarations with safe wrappers, the same functions by the second implementation, and calls that
+//! two implementations answer.
+
+#[cfg(test)]
+mod c_hosts;
+pub mod compiled;
+#[cfg(test)]
+mod declarations;
+pub mod functions;
+pub mod host_calls;
+pub mod model;
