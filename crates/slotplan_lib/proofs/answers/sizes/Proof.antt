@@ -21,7 +21,7 @@ mul-result : tie.Need-mul-result
 mul-result c = omega (arith, few (c .before))
 
 add-result : tie.Need-add-result
-add-result c = omega (arith, few (c .before .before))
+add-result c = omega (arith, few (c .before))
 
 returns : tie.Need-returns
 returns c = rw (← c .before .flow-count .ensures) (told-value _ (omega (arith, few (c .before))))
