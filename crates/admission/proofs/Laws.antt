@@ -13,7 +13,7 @@ use lib.Seq.{getD-set-same}
 use borrow.Author.Tests.{lt-ltb, ne-eqb, ltb-true, ltb-false, eqb-true, eqb-false, not-true, not-false}
 use native.Mathlib.Omega.{arith}
 use Rattle.rulings.specs.Outcome.{Ruling, accepted, refused, checked, settled, none, Ruled, nothing}
-use Rattle.rulings.proofs.Laws.Outcomes.{past, checked-past, settled-accepted, settled-refused, ruled-check, ruled-test, ruled-end}
+use Rattle.rulings.proofs.Laws.Outcomes.{past, checked-pass, checked-past, settled-accepted, settled-refused, ruled-check, ruled-test, ruled-end}
 use Rattle.site.specs.declared.Site.{Site}
 use Rattle.site.specs.declared.Flow.{Flow}
 use Rattle.site.specs.Sites.{emptySite, live, withFlow, withoutFlow}
@@ -62,6 +62,16 @@ admits-when s counters f = (
 )
 
 -- So its number has nine of the counters.
+-- With 576 counters on a site that passes check 14, an admission is judged by its flow alone and a release by its number alone.
+module _ (s : Site) (counters : List ℕ) (long : length counters ≡ 576) (e : passesOf s ≡ true) where
+  pub admission-judged : (f : Flow) → admitRuling s counters f ≡ flowRuling s f
+  unfolding admitRuling
+  admission-judged f = checked-pass (callFault s counters) _ (call-when s counters .1 (long, passes-sound s .0 e))
+
+  pub release-judged : (n : ℕ) → releaseRuling s counters n ≡ numberRuling s n
+  unfolding releaseRuling
+  release-judged n = checked-pass (callFault s counters) _ (call-when s counters .1 (long, passes-sound s .0 e))
+
 pub admitted-cells : (s : Site) (counters : List ℕ) (f : Flow) → admitRuling s counters f ≡ accepted tt → 9 * f .number + 9 ≤ length counters
 admitted-cells s counters f e = let w = admits-when s counters f .0 e in omega (arith, w .counted, w .good .within .number-most)
 

@@ -8,7 +8,8 @@ ghost use Rattle.rulings.specs.Outcome.{settled, ruling};
 ghost use Rattle.counters.specs.Blocks.{cleared};
 ghost use Rattle.admission.specs.Calls.{flowRuling, admitRuling, admitOf, numberRuling, releaseRuling, releaseOf};
 
-// The checks of a flow that is to come besides 1 and 14, in their order: 5 and 6, 15, 17, 18.
+// The checks of a flow that is to come besides 1 and 14, in their order: 5 and 6, 15, 17, 18. It is no operation of 01: with 576 counters on a site that
+// passes, these are all that an admission asks, by the law `admission-judged`.
 pub fn judge_flow(site: Site, flow: Flow) -> Verdict
     ensures { λ r. ⌜ ruling r ≡ flowRuling site flow ⌝ }
 {
@@ -33,7 +34,7 @@ pub fn judge_flow(site: Site, flow: Flow) -> Verdict
     Verdict::Accepted
 }
 
-// The checks of a number that is to go besides 1 and 14, in their order: 5, 16.
+// The checks of a number that is to go besides 1 and 14, in their order: 5, 16. It is no operation of 01 either: the law is `release-judged`.
 pub fn judge_number(site: Site, number: u8) -> Verdict
     ensures { λ r. ⌜ ruling r ≡ numberRuling site number ⌝ }
 {

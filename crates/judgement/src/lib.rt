@@ -21,7 +21,9 @@ pub fn refusal(number: u8, place: usize) -> Judged
     }
 }
 
-// The site with its schedule where 11, 12 and 13 let it pass. The offsets and periods handed in play no part.
+// The site with its schedule where 11, 12 and 13 let it pass. The offsets and periods handed in play no part. It is no operation of 01: where a gap is
+// outside its limits it answers 11 too, and nothing reaches that, since a reading and check 14 judge the gaps before (`judged-gapped` of crate `plan`,
+// `ungapped-fails` of `site_check`).
 pub fn judge(site: Site) -> Judged
     ensures { λ r. ⌜ (ruling (r .verdict), r .site) ≡ withSite (judgeOf site) ⌝ }
 {

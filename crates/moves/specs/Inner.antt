@@ -14,7 +14,7 @@ use Rattle.counters.specs.Blocks.{cellsOf}
 use Rattle.queues.specs.Cells.{Hop}
 use Rattle.moves.specs.Hops.{hopsAlong}
 
--- What stands for the link of a node in slot t: its judged gap if it sends, else 0.
+-- What stands for the link of a node in slot t: its period if it sends, else 0.
 unfoldable pub periodIn : Site → ℕ → ℕ → ℕ
 periodIn s t node = cond (linkSends s node t) (ofLink (periodsJudged s) node) 0
 

@@ -12,7 +12,8 @@ ghost use Rattle.lists.specs.Lists.{joined};
 ghost use Rattle.queues.specs.Cells.{step};
 ghost use Rattle.moves.specs.Inner.{PeriodsIn, hopsIn, Movable, AllMovable};
 
-// One slot on a site whose check 14 is not asked here: arrivals join, and every sending link moves what it may of each live flow.
+// One slot without check 14: arrivals join, and every sending link moves what it may of each live flow. It is no operation of 01. For a caller who knows
+// that the site passes, as one that was just read does, it is `slot` of crate `simulation`: the law `slot-advances` there.
 pub fn advance(site: Site, counters: &mut [u32], arrivals: &[u16], number: u32) -> Verdict
     ensures { λ r. ⌜ (ruling r, now (counters .exit)) ≡ advanceOf own site (now (counters .entry)) (now (arrivals .entry)) number ⌝ }
 {

@@ -1,4 +1,5 @@
-// The slot rule: from the gaps wanted by the children of one parent it assigns their periods and offsets. It knows no plans, bytes or flows.
+// The slot rule: from the gaps wanted by the children of one parent it assigns their periods and offsets. It knows no plans, bytes or flows. Its 14 functions
+// are one subject, which rule 5 holds together: offsets are searched among the periods that the base gives.
 mod bases;
 mod offsets;
 mod periods;
@@ -7,7 +8,7 @@ ghost use mathlib.Core.Path.{_≡_};
 ghost use Rattle.pinwheel.specs.Assign.{outcome, assigned, firstBad};
 ghost use Rattle.pinwheel.specs.Rule.{sends};
 
-// The base that was found, or the number and the place of a refusal.
+// The base, which a plan's report prints, or the number and the place of a refusal.
 pub enum Answer {
     Base(u16),
     Refused(u8, usize),

@@ -56,7 +56,7 @@ use Rattle.plan.specs.ScheduleWords.{ScheduleInForm, ScheduleBegun, Sche
 use Rattle.plan.specs.Former.{formerForm, formerRead, FormerlyCarried, FormerlyPunctual}
 use Rattle.plan.proofs.Laws.Small.{plan-small, schedule-small}
 use Rattle.plan.proofs.Laws.Acceptance.{read-form, read-plan, plan-scheduled, read-judged, read-refused}
-use Rattle.plan.proofs.Laws.Refusals.{decode-fails}
+use Rattle.plan.proofs.Laws.Refusals.{decode-fails, decode-form}
 use Rattle.plan.proofs.Laws.Faults.{first-numbers}
 use Rattle.plan.proofs.Laws.Schedules.{without-listed, listed-without, check-numbers, schedule-why, schedule-form, schedule-read}
 use Rattle.plan.proofs.Laws.SiteSchedules.{site-listed}
@@ -106,6 +106,10 @@ refused-full bytes small m = refused-judged bytes small 12 m (omega arith) _ (λ
 pub refused-late : (bytes : List ℕ) → Bytes bytes → (n : ℕ)
     → (readOf bytes ≡ refused 13 n) ↔ ((s : Site) × InForm bytes s × (Served s × Carried (scheduled s) × LateAt (scheduled s) n))
 refused-late bytes small n = refused-judged bytes small 13 n (omega arith) _ (λ s few g. judge-delays s few g n)
+
+-- A reading judges only nodes whose gaps are within their limits. So its 11 never tells of such a gap, for which `judge` by itself answers 11 too.
+pub judged-gapped : (bytes : List ℕ) → Bytes bytes → (s : Site) → decode bytes ≡ accepted s → Wellgapped s
+judged-gapped bytes small s e = formed-gapped s (decode-form bytes small s e .formed)
 
 -- 01: a refused reading gives the empty site.
 pub refused-empty : (bytes : List ℕ) (number place : ℕ) → readOf bytes ≡ refused number place

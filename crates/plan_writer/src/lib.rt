@@ -105,7 +105,8 @@ fn put_plan(site: Site, out: &mut [u8]) -> Written
     Written::Length(size)
 }
 
-// The plan bytes of a site whose check 14 is not asked here.
+// The writing without check 14, which is no operation of 01: only more links than there are entries for get 14. On a site that passes it is `write_plan`:
+// the law `plain-writing` of crate `site_check`.
 pub fn encode_plan(site: Site, out: &mut [u8]) -> Written
     ensures { λ r. ⌜ (writing r, now (out .exit)) ≡ encoded (site .links) (planBytes site) (now (out .entry)) ⌝ }
 {

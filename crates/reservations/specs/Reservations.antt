@@ -9,9 +9,9 @@ use Rattle.lists.specs.Search.{first}
 use Rattle.site.specs.declared.Site.{Site}
 use Rattle.site.specs.Sites.{used, live}
 use Rattle.tree.specs.Tree.{ofLink, route, has}
-use Rattle.lists.specs.Lists.{sumTo}
+use Rattle.lists.specs.Lists.{sumTo, listed}
 
--- 02, U2: widths and the sums of 12, 13, 17 and 18 go by the gaps actually served, which are the periods.
+-- 02, U2: widths and the sums of 12, 13, 17 and 18 go by the periods, the gaps that links are served within.
 unfoldable pub periodsJudged : Site → List ℕ
 periodsJudged s = s .periods
 
@@ -19,9 +19,9 @@ periodsJudged s = s .periods
 unfoldable pub routeOf : Site → ℕ → List ℕ
 routeOf s n = route (s .parents) (getD (s .entries) n 0)
 
--- 01, Reservations, and 02, U2: the width on the link of node m, rate × judged gap, of a flow with this rate.
+-- 01, Reservations, and 02, U2: the width on the link of node m, rate × period, of a flow with this rate.
 unfoldable pub widthAt : List ℕ → ℕ → ℕ → ℕ
-widthAt gaps rate m = rate * ofLink gaps m
+widthAt periods rate m = rate * ofLink periods m
 
 -- What flow n keeps of the link of node m.
 unfoldable pub widthOn : Site → ℕ → ℕ → ℕ
@@ -32,9 +32,8 @@ unfoldable pub load : Site → ℕ → ℕ
 load s m = sumTo (widthOn s m) 64
 
 -- The sums of the widths on all 63 links, the one of node n's link at index n - 1.
-pub record Loads (s : Site) (loads : List ℕ) : Type 0 where
-  pub long : length loads ≡ 63
-  pub each : (i : ℕ) → i < 63 → getD loads i 0 ≡ load s (i + 1)
+unfoldable pub loadsOf : Site → List ℕ
+loadsOf s = listed (λ i. load s (i + 1)) 63 0
 
 -- 01, 12: the link at index i has widths above its capacity, and the first such index.
 unfoldable pub over : Site → ℕ → Bool
@@ -57,7 +56,7 @@ unfoldable pub along : List ℕ → List ℕ → ℕ
 along xs [] = 0
 along xs (m ∷ ms) = ofLink xs m + along xs ms
 
--- 01, 13: a live flow's judged gaps sum to more than its deadline, and the first such flow.
+-- 01, 13: the periods on a live flow's route sum to more than its deadline, and the first such flow.
 unfoldable pub late : Site → ℕ → Bool
 late s n = live s n && ltb (getD (s .deadlines) n 0) (along (periodsJudged s) (routeOf s n))
 

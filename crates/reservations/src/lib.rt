@@ -8,8 +8,8 @@ ghost use mathlib.Core.Path.{_≡_};
 ghost use Prim.Native.Nat.{ℕ, _≤_};
 ghost use lib.ListN.{length, getD};
 ghost use Rattle.tree.specs.Tree.{route};
-ghost use Rattle.reservations.specs.Reservations.{Loads, periodsJudged, firstOver, firstUnfit, along, firstLate, delayBound};
-ghost use Rattle.reservations.specs.Inner.{carried};
+ghost use Rattle.reservations.specs.Reservations.{loadsOf, periodsJudged, firstOver, firstUnfit, along, firstLate, delayBound};
+ghost use Rattle.reservations.specs.Inner.{carried, Loads};
 
 // The sum of the values of the links from the node up to the root.
 fn sum_along<'a>(values: &'a [u16], parents: &'a [u8], node: u8) -> u32
@@ -27,11 +27,11 @@ fn sum_along<'a>(values: &'a [u16], parents: &'a [u8], node: u8) -> u32
     }
 }
 
-// Adds a flow's width on each link from its entry node up, and sums up the gaps of these links on the way.
-fn add_widths<'a>(gaps: &'a [u16], parents: &'a [u8], entry: u8, rate: u8, loads: &mut [u32]) -> u32
+// Adds a flow's width on each link from its entry node up, and sums up the periods of these links on the way.
+fn add_widths<'a>(periods: &'a [u16], parents: &'a [u8], entry: u8, rate: u8, loads: &mut [u32]) -> u32
     requires { ⌜ (length (now loads) ≡ length (now parents)) × ((i : ℕ) → getD (now loads) i 0 ≤ 4000000000) ⌝ }
-    ensures { λ r. ⌜ (r ≡ along (now (gaps .entry)) (route (now (parents .entry)) entry))
-        × (now (loads .exit) ≡ carried (now (gaps .entry)) rate (route (now (parents .entry)) entry) (now (loads .entry))) ⌝ }
+    ensures { λ r. ⌜ (r ≡ along (now (periods .entry)) (route (now (parents .entry)) entry))
+        × (now (loads .exit) ≡ carried (now (periods .entry)) rate (route (now (parents .entry)) entry) (now (loads .entry))) ⌝ }
 {
     let mut sum: u32 = 0;
     let mut node = entry;
@@ -41,9 +41,9 @@ fn add_widths<'a>(gaps: &'a [u16], parents: &'a [u8], entry: u8, rate: u8, loads
             return sum;
         }
         let i = (node - 1) as usize;
-        let gap = value_of(gaps, node) as u32;
-        loads[i] += rate as u32 * gap;
-        sum += gap;
+        let period = value_of(periods, node) as u32;
+        loads[i] += rate as u32 * period;
+        sum += period;
         node = parent;
     }
 }
@@ -75,9 +75,9 @@ fn reserved_of(site: Site) -> Reserved
     Reserved { loads, late }
 }
 
-// The sum of the widths on each link.
+// A picture shows what each link carries of its capacity.
 pub fn loads(site: Site) -> [u32; 63]
-    ensures { λ r. ⌜ Loads site r ⌝ }
+    ensures { λ r. ⌜ r ≡ loadsOf site ⌝ }
 {
     let reserved = reserved_of(site);
     reserved.loads

@@ -43,7 +43,8 @@ fn put_links<'a>(links: u8, offsets: &'a [u16; 63], periods: &'a [u16; 63], out:
     at
 }
 
-// The bytes of a schedule whose check 14 is not asked here.
+// The writing without check 14, which is no operation of 01: only more links than there are entries for get 14. On a schedule that passes it is
+// `write_schedule_of`, by the law `handed-well` of crate `slices`; on that of a site that passes it is `write_schedule`, by `plain-writing` of `site_check`.
 pub fn encode_schedule(schedule: Schedule, out: &mut [u8]) -> Written
     ensures { λ r. ⌜ (writing r, now (out .exit)) ≡ encoded (schedule .links) (scheduleBytes schedule) (now (out .entry)) ⌝ }
 {

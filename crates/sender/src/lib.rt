@@ -27,7 +27,7 @@ fn sending_child(site: Site, parent: u8, slot: u32) -> u8
     0
 }
 
-// Which child of the parent sends in the slot, on a site whose check 14 is not asked here.
+// A lookup without check 14, which is no operation of 01. On a site that passes, as one that was just read does, it is `sender`: the law `sender-looks`.
 pub fn look_up(site: Site, parent: u8, slot: u32) -> Lookup
     ensures { λ r. ⌜ found r ≡ lookupOf site parent slot ⌝ }
 {

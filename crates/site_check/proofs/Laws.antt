@@ -1,5 +1,5 @@
--- What is proved of check 14: what a site is that passes it, what a call asks of it, what its slots and routes have, and that flows may come and go. The modules named
--- here hold the lemmas.
+-- What is proved of check 14: what a site is that passes it, what a call asks of it, what its slots and routes have, and that flows may come and go.
+-- The modules named here hold the lemmas.
 pub mod Forms
 pub mod Check
 pub mod Passing
@@ -23,6 +23,7 @@ use Rattle.site.specs.Sites.{live, withFlow, withoutFlow}
 use Rattle.schedule.specs.Schedule.{linkSends}
 use Rattle.reservations.specs.Reservations.{periodsJudged, routeOf, widthAt, load, along, delayBound}
 use Rattle.tree.specs.Words.{Leads}
+use Rattle.schedule.specs.Words.{Wellgapped}
 use Rattle.schedule.proofs.Laws as slots
 use Rattle.tree.proofs.Laws.Tree.{route-leads, route-falls}
 use Rattle.limits.specs.Limits.{badFlow, misplaced, flowLimits}
@@ -31,6 +32,7 @@ use Rattle.limits.specs.Words.{FlowGood, flowChecks}
 use Rattle.site_check.specs.Words.{Sound, siteChecks, callChecks}
 use Rattle.rulings.proofs.Laws.Choices.{passed, fails-when, not-when}
 use Rattle.limits.proofs.Laws.Forms.{flow-within}
+use Rattle.site_check.proofs.Laws.Forms.{formed-gapped}
 use Rattle.site_check.proofs.Laws.Passing.{judged-when, passes-parts}
 use Rattle.site_check.proofs.Laws.Flows.{live-few, live-fits, parent-below, route-short, without-none, without-with, sound-timed, sound-with}
 use Rattle.site_check.proofs.Laws.Flows.{sound-without}
@@ -43,6 +45,14 @@ passes-sound s = (
   λ w. passes-parts s .1
       (w .formed, judged-when s (w .formed) .1 (w .served, rw (← w .own) (w .carried), rw (← w .own) (w .punctual)), w .own),
 )
+
+-- A site with a gap outside its limits fails the check, whatever `judge` answers for it.
+pub ungapped-fails : (s : Site) → (Wellgapped s → ⊥) → passesOf s ≡ false
+ungapped-fails s n = go (passesOf s) refl
+  where
+    go : (t : Bool) → passesOf s ≡ t → t ≡ false
+    go true e = absurd (n (formed-gapped s (passes-sound s .0 e .formed)))
+    go false e = refl
 
 -- A call that is lent counters gets past 1 and 14 just when there are 576 and the site passes.
 pub call-when : (s : Site) (counters : List ℕ) → (callFault s counters ≡ 0) ↔ ((length counters ≡ 576) × Sound s)

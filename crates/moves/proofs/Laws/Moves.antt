@@ -1,4 +1,4 @@
--- The code that moves packets: the gaps of the links that send, the way up a flow's route, and the loop over the flows.
+-- The code that moves packets: the periods of the links that send, the way up a flow's route, and the loop over the flows.
 use Prim.Native.Nat.{ℕ, zero, suc, _+_, _-_, _*_, _≤_, _<_, min}
 use mathlib.Core.Path.{_≡_, refl, sym, _∙_, ap}
 use mathlib.Core.Bool.{Bool, true, false, cond, false≢true}
@@ -30,7 +30,7 @@ use Rattle.moves.specs.Hops.{Service, own, hopsAlong, hopsOf}
 use Rattle.moves.specs.Moves.{cellsAfter}
 use Rattle.moves.specs.Inner.{periodIn, PeriodsIn, inSlot, hopsIn, Movable, AllMovable}
 
--- The list of the gaps of links that send, of which the first i entries are in; the others are 0 still.
+-- The list of the periods of links that send, of which the first i entries are in; the others are 0 still.
 pub record Sending (s : Site) (t i : ℕ) (xs : List ℕ) : Type 0 where
   pub most : i ≤ used (s .links)
   pub long : length xs ≡ 63

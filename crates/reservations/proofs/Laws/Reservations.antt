@@ -6,7 +6,7 @@ use mathlib.Core.List.{List, [], _∷_}
 use mathlib.Core.Logic.{⊎-elim}
 use lib.Dec.{eqb, ltb}
 use lib.ListN.{length, getD, set, replicate, length-set, getD-replicate, List·getD-eq-default}
-use lib.Seq.{getD-set-same, getD-set-other}
+use lib.Seq.{getD-set-same, getD-set-other, ext-getD}
 use borrow.Author.Tests.{lt-ltb, le-ltb, eq-eqb, ne-eqb, eqb-true, eqb-false}
 use native.Mathlib.Nat.{mul-le-mul, zero-add}
 use native.Mathlib.Omega.{arith}
@@ -16,11 +16,12 @@ use Rattle.site.specs.declared.Site.{Site}
 use Rattle.site.specs.declared.Flow.{Flow}
 use Rattle.tree.specs.Tree.{ofLink, up, route, has}
 use Rattle.site.specs.Sites.{live, withFields, withFlow, withoutFlow}
-use Rattle.reservations.specs.Reservations.{periodsJudged, routeOf, widthAt, widthOn, load, Loads, over, unfit, firstUnfit, along, late, firstLate}
+use Rattle.reservations.specs.Reservations.{periodsJudged, routeOf, widthAt, widthOn, load, loadsOf, over, unfit, firstUnfit, along, late, firstLate}
 use Rattle.reservations.specs.Reservations.{delayBound}
 use Rattle.lists.specs.Lists.{sumTo}
-use Rattle.reservations.specs.Inner.{carried}
+use Rattle.reservations.specs.Inner.{carried, Loads}
 use Rattle.tree.proofs.Laws.Tree.{link-in, way-up, route-up, route-end, route-root, route-within, up-within}
+use Rattle.lists.proofs.Laws.Listed.{length-listed, getD-listed}
 use Rattle.lists.proofs.Laws.Sums.{sum-more, sum-le, sum-except}
 use Rattle.site.proofs.Laws.Flows.{live-here}
 
@@ -43,58 +44,58 @@ module _ (xs p : List ℕ) (node : ℕ) where
     unfolding along
     summing-end h = omega (arith, rw (route-end p n (rw e at h)) at (s .rest))
 
-module _ (gaps : List ℕ) (rate : ℕ) where
-  pub carried-long : (ms loads : List ℕ) → length (carried gaps rate ms loads) ≡ length loads
+module _ (periods : List ℕ) (rate : ℕ) where
+  pub carried-long : (ms loads : List ℕ) → length (carried periods rate ms loads) ≡ length loads
   unfolding carried
   carried-long [] loads = refl
   carried-long (m ∷ ms) loads =
-      carried-long ms (set loads (m - 1) (getD loads (m - 1) 0 + widthAt gaps rate m)) ∙ length-set loads (m - 1) _
+      carried-long ms (set loads (m - 1) (getD loads (m - 1) 0 + widthAt periods rate m)) ∙ length-set loads (m - 1) _
 
   -- The numbers of a route fall, so no link has the width added twice.
   pub carried-at : (p : List ℕ) (i n : ℕ) (loads : List ℕ) → i < length loads
-      → getD (carried gaps rate (route p n) loads) i 0 ≡ getD loads i 0 + cond (has (i + 1) (route p n)) (widthAt gaps rate (i + 1)) 0
+      → getD (carried periods rate (route p n) loads) i 0 ≡ getD loads i 0 + cond (has (i + 1) (route p n)) (widthAt periods rate (i + 1)) 0
   unfolding carried has
   carried-at p i =
       way-up p (λ n. (loads : List ℕ) → i < length loads
-      → getD (carried gaps rate (route p n) loads) i 0 ≡ getD loads i 0 + cond (has (i + 1) (route p n)) (widthAt gaps rate (i + 1)) 0)
+      → getD (carried periods rate (route p n) loads) i 0 ≡ getD loads i 0 + cond (has (i + 1) (route p n)) (widthAt periods rate (i + 1)) 0)
       (λ n l loads h. rw (route-end p n l) (omega arith))
       (λ n l ih loads h. rw (route-up p n l) (go n l loads h (ih (more n loads)) (eqb n (i + 1)) refl))
     where
       more : ℕ → List ℕ → List ℕ
-      more n loads = set loads (n - 1) (getD loads (n - 1) 0 + widthAt gaps rate n)
+      more n loads = set loads (n - 1) (getD loads (n - 1) 0 + widthAt periods rate n)
 
       below : (n : ℕ) → up p n < n → n ≡ i + 1 → (t : Bool) → has (i + 1) (route p (up p n)) ≡ t → t ≡ false
       below n l e true t = absurd (omega (arith, route-within p (i + 1) (up p n) t .1))
       below n l e false t = refl
 
       go : (n : ℕ) → up p n < n → (loads : List ℕ) → i < length loads
-          → (i < length (more n loads) → getD (carried gaps rate (route p (up p n)) (more n loads)) i 0
-          ≡ getD (more n loads) i 0 + cond (has (i + 1) (route p (up p n))) (widthAt gaps rate (i + 1)) 0)
+          → (i < length (more n loads) → getD (carried periods rate (route p (up p n)) (more n loads)) i 0
+          ≡ getD (more n loads) i 0 + cond (has (i + 1) (route p (up p n))) (widthAt periods rate (i + 1)) 0)
           → (b : Bool) → eqb n (i + 1) ≡ b
-          → getD (carried gaps rate (route p (up p n)) (more n loads)) i 0
-          ≡ getD loads i 0 + cond (cond b true (has (i + 1) (route p (up p n)))) (widthAt gaps rate (i + 1)) 0
+          → getD (carried periods rate (route p (up p n)) (more n loads)) i 0
+          ≡ getD loads i 0 + cond (cond b true (has (i + 1) (route p (up p n)))) (widthAt periods rate (i + 1)) 0
       go n l loads h ih true t =
           let e : n ≡ i + 1 = eqb-true n (i + 1) t in
           let k : n - 1 ≡ i = omega arith in
-          ih (rw length-set h) ∙ rw (below n l e _ refl, k, getD-set-same loads i (getD loads i 0 + widthAt gaps rate n) 0 h, e) (omega arith)
+          ih (rw length-set h) ∙ rw (below n l e _ refl, k, getD-set-same loads i (getD loads i 0 + widthAt periods rate n) 0 h, e) (omega arith)
       go n l loads h ih false t =
           let apart : i ≡ n - 1 → ⊥ = λ e. eqb-false n (i + 1) t (omega arith) in
-          ih (rw length-set h) ∙ rw (getD-set-other loads (n - 1) i (getD loads (n - 1) 0 + widthAt gaps rate n) 0 apart)
+          ih (rw length-set h) ∙ rw (getD-set-other loads (n - 1) i (getD loads (n - 1) 0 + widthAt periods rate n) 0 apart)
 
 -- A flow's width is added on the links from node n up; below it nothing is written yet.
-pub record Carrying (gaps p : List ℕ) (rate entry : ℕ) (loads₀ loads : List ℕ) (n : ℕ) : Type 0 where
+pub record Carrying (periods p : List ℕ) (rate entry : ℕ) (loads₀ loads : List ℕ) (n : ℕ) : Type 0 where
   pub few : n ≤ entry
   pub long : length loads ≡ length loads₀
-  pub rest : carried gaps rate (route p n) loads ≡ carried gaps rate (route p entry) loads₀
+  pub rest : carried periods rate (route p n) loads ≡ carried periods rate (route p entry) loads₀
   pub left : (i : ℕ) → i < n → getD loads i 0 ≡ getD loads₀ i 0
 
-module _ (gaps p : List ℕ) (rate entry : ℕ) (loads₀ : List ℕ) where
-  pub carrying-start : Carrying gaps p rate entry loads₀ loads₀ entry
+module _ (periods p : List ℕ) (rate entry : ℕ) (loads₀ : List ℕ) where
+  pub carrying-start : Carrying periods p rate entry loads₀ loads₀ entry
   carrying-start = record { few = omega arith; long = refl; rest = refl; left = λ i l. refl }
 
-  module _ (loads : List ℕ) (n u : ℕ) (s : Carrying gaps p rate entry loads₀ loads n) (e : u ≡ up p n) where
-    pub carrying-more : (x : ℕ) → u < n → x ≡ ofLink gaps n
-        → Carrying gaps p rate entry loads₀ (set loads (n - 1) (getD loads (n - 1) 0 + rate * x)) u
+  module _ (loads : List ℕ) (n u : ℕ) (s : Carrying periods p rate entry loads₀ loads n) (e : u ≡ up p n) where
+    pub carrying-more : (x : ℕ) → u < n → x ≡ ofLink periods n
+        → Carrying periods p rate entry loads₀ (set loads (n - 1) (getD loads (n - 1) 0 + rate * x)) u
     unfolding carried widthAt
     carrying-more x h q = record {
       few = omega (arith, s .few);
@@ -103,7 +104,7 @@ module _ (gaps p : List ℕ) (rate entry : ℕ) (loads₀ : List ℕ) where
       left = λ i l. getD-set-other loads (n - 1) i _ 0 (λ z. omega arith) ∙ s .left i (omega arith);
     }
 
-    pub carrying-end : n ≤ u → loads ≡ carried gaps rate (route p entry) loads₀
+    pub carrying-end : n ≤ u → loads ≡ carried periods rate (route p entry) loads₀
     unfolding carried
     carrying-end h = rw (route-end p n (rw e at h)) at (s .rest)
 
@@ -194,7 +195,7 @@ module _ (s : Site) where
         found = missed (late-none s k d);
       }
 
-      -- It is live: its widths and the sum of its gaps come from one way up.
+      -- It is live: its widths and the sum of its periods come from one way up.
       module _ (l : getD (s .states) k 0 ≡ 1) (sum : ℕ) (next : List ℕ)
           (up : (sum ≡ along (periodsJudged s) (route (s .parents) (getD (s .entries) k 0)))
           × (next ≡ carried (periodsJudged s) (getD (s .rates) k 0) (route (s .parents) (getD (s .entries) k 0)) loads)) where
@@ -222,6 +223,13 @@ module _ (s : Site) where
         pub judging-kept : sum ≤ getD (s .deadlines) k 0 → Judging s k next first
         judging-kept o = more first (missed (judged ∙ le-ltb _ _ o))
 
+-- Loads entry by entry are the list of them.
+pub loads-are : (s : Site) (loads : List ℕ) → Loads s loads → loads ≡ loadsOf s
+unfolding loadsOf
+loads-are s loads w =
+    ext-getD 0 loads _ (w .long ∙ sym (length-listed (λ i. load s (i + 1)) 63 0))
+    (λ k l. w .each k (omega (arith, w .long)) ∙ sym (getD-listed (λ i. load s (i + 1)) 63 0 k (omega (arith, w .long)) ∙ rw zero-add))
+
 -- Whether a link is over its capacity, by its load in a list of loads.
 module _ (s : Site) (i x : ℕ) (e : x ≡ load s (i + 1)) where
   pub over-yes : getD (s .capacities) i 0 < x → over s i ≡ true
@@ -238,7 +246,7 @@ module _ (s : Site) (rate n u : ℕ) (e : u ≡ up (s .parents) n) where
   unfolding firstUnfit
   unfit-end l = rw (route-end (s .parents) n (rw e at l))
 
-  -- The load of its link as it stands in a list of loads, and the link's gap.
+  -- The load of its link as it stands in a list of loads, and the link's period.
   module _ (h : u < n) (x g : ℕ) (is : x ≡ load s (n - 1 + 1)) (q : g ≡ ofLink (periodsJudged s) n) where
     unfit-test : unfit s rate n ≡ ltb (getD (s .capacities) (n - 1) 0) (x + rate * g)
     unfolding unfit widthAt

@@ -1,4 +1,4 @@
--- Right because `Carrying` and `Summing` hold: the widths and the gaps from the node up, added to the loads and the sum so far, give those of the whole route,
+-- Right because `Carrying` and `Summing` hold: the widths and the periods from the node up, added to the loads and the sum so far, give those of the whole route,
 -- and the links to come have the loads of the start, which with one width more fit in 32 bits; the node's number falls.
 use borrow.Author.Needs.{needs}
 use Prim.Native.Nat.{_*_, _≤_}
@@ -9,11 +9,11 @@ use Rattle.reservations.proofs.add_widths.Statement.{statement}
 use Rattle.reservations.proofs.add_widths.Tie as tie
 
 abbrev Inv-loop : tie.InvT-loop
-Inv-loop gaps parents entry rate loads₀ sum₀ node₀ loads sum node =
-    Carrying gaps parents rate entry loads₀ loads node × Summing gaps parents entry sum node
+Inv-loop periods parents entry rate loads₀ sum₀ node₀ loads sum node =
+    Carrying periods parents rate entry loads₀ loads node × Summing periods parents entry sum node
 
 abbrev μ-loop : tie.MeasureT-loop
-μ-loop gaps parents entry rate loads₀ sum₀ node₀ loads sum node = node
+μ-loop periods parents entry rate loads₀ sum₀ node₀ loads sum node = node
 
 width : (c : tie.After-value-of Inv-loop μ-loop)
     → c .before .before .before .before .before .before .before .args .rate * c .value-of .result ≤ 16711425
@@ -44,8 +44,8 @@ cast-i c = omega (arith, c .before .before .loop .inv .0 .few)
 value-of-requires : tie.Need-value-of-requires Inv-loop μ-loop
 value-of-requires c κs = tt
 
-cast-gap : tie.Need-cast-gap Inv-loop μ-loop
-cast-gap c = search needs
+cast-period : tie.Need-cast-period Inv-loop μ-loop
+cast-period c = search needs
 
 mul-loads : tie.Need-mul-loads Inv-loop μ-loop
 mul-loads c = omega (arith, width c)
@@ -98,7 +98,7 @@ add-widths-spec =
     sub-i
     cast-i
     value-of-requires
-    cast-gap
+    cast-period
     mul-loads
     mul-loads-2
     slice-read-loads

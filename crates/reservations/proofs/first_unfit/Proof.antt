@@ -44,15 +44,15 @@ loaded c = walk c .before .reserved-of .ensures .0 .each _ (within c)
 rate-le : (s : tie.Start Inv-loop μ-loop) (i : ℕ) → getD (s .args .t1 .rates) i 0 ≤ 255
 rate-le s i = let f : Fits w8 (getD (s .args .t1 .rates) i 0) = search needs in omega (arith, f .fits)
 
-gap-le : (s : tie.Start Inv-loop μ-loop) (i : ℕ) → getD (s .args .t1 .periods) i 0 ≤ 65535
-gap-le s i = let f : Fits w16 (getD (s .args .t1 .periods) i 0) = search needs in omega (arith, f .fits)
+period-le : (s : tie.Start Inv-loop μ-loop) (i : ℕ) → getD (s .args .t1 .periods) i 0 ≤ 65535
+period-le s i = let f : Fits w16 (getD (s .args .t1 .periods) i 0) = search needs in omega (arith, f .fits)
 
 capacity-fits : (s : tie.Start Inv-loop μ-loop) (i : ℕ) → getD (s .args .t1 .capacities) i 0 < 4294967296
 capacity-fits s i = let f : Fits w16 (getD (s .args .t1 .capacities) i 0) = search needs in omega (arith, f .fits)
 
 heavy : (c : tie.After-value-of Inv-loop μ-loop) → getD (walk c .before .reserved-of .result .loads) (walk c .loop .link - 1) 0 ≤ 1069531200
 unfolding periodsJudged
-heavy c = rw (loaded c) (load-le _ _ (rate-le (start c)) (gap-le (start c)))
+heavy c = rw (loaded c) (load-le _ _ (rate-le (start c)) (period-le (start c)))
 
 reserved-of-requires : tie.Need-reserved-of-requires Inv-loop μ-loop
 reserved-of-requires c κs = search needs

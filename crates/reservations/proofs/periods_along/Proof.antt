@@ -1,4 +1,4 @@
--- Right because the judged gaps are the periods, and these are summed from the node up.
+-- Right because the periods are what is judged, and these are summed from the node up.
 use borrow.Author.Needs.{needs}
 use Rattle.reservations.specs.Reservations.{periodsJudged}
 use Rattle.reservations.proofs.periods_along.Statement.{statement}

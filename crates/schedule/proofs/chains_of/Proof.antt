@@ -15,18 +15,15 @@ Inv-loop links parents chains₀ i₀ chains i = Chained parents links i (chains
 abbrev μ-loop : tie.MeasureT-loop
 μ-loop links parents chains₀ i₀ chains i = i
 
-cast-childless : tie.Need-cast-childless Inv-loop μ-loop
-cast-childless c = search needs
+cast-t6 : tie.Need-cast-t6 Inv-loop μ-loop
+cast-t6 c = search needs
 
-childless-requires : tie.Need-childless-requires Inv-loop μ-loop
-childless-requires c κs = search needs
-
-byte : (c : tie.After-shared-slice-known2 Inv-loop μ-loop)
-    → getD (c .before .before .before .before .before .args .parents .now) (c .before .before .loop .i - 1) 0 < 256
-byte c = omega (arith, c .shared-slice-known2 .given (c .before .before .loop .i - 1))
+byte : (c : tie.After-shared-slice-known Inv-loop μ-loop)
+    → getD (c .before .before .before .args .parents .now) (c .before .before .loop .i - 1) 0 < 256
+byte c = omega (arith, c .shared-slice-known .given (c .before .before .loop .i - 1))
 
 loop-holds : tie.Need-loop-holds Inv-loop μ-loop
-loop-holds c = chained-start _ _ _ _ (c .childless .ensures) refl
+loop-holds c = chained-start _ _ _ _ refl refl
 
 sub-i : tie.Need-sub-i Inv-loop μ-loop
 sub-i c = search needs
@@ -65,8 +62,7 @@ chains-of-spec =
     (tie.spec
     Inv-loop
     μ-loop
-    cast-childless
-    childless-requires
+    cast-t6
     loop-holds
     sub-i
     shared-slice-read-parent
