@@ -62,6 +62,9 @@ admits-when s counters f = (
 )
 
 -- So its number has nine of the counters.
+pub admitted-cells : (s : Site) (counters : List ℕ) (f : Flow) → admitRuling s counters f ≡ accepted tt → 9 * f .number + 9 ≤ length counters
+admitted-cells s counters f e = let w = admits-when s counters f .0 e in omega (arith, w .counted, w .good .within .number-most)
+
 -- With 576 counters on a site that passes check 14, an admission is judged by its flow alone and a release by its number alone.
 module _ (s : Site) (counters : List ℕ) (long : length counters ≡ 576) (e : passesOf s ≡ true) where
   pub admission-judged : (f : Flow) → admitRuling s counters f ≡ flowRuling s f
@@ -71,9 +74,6 @@ module _ (s : Site) (counters : List ℕ) (long : length counters ≡ 576) (e : 
   pub release-judged : (n : ℕ) → releaseRuling s counters n ≡ numberRuling s n
   unfolding releaseRuling
   release-judged n = checked-pass (callFault s counters) _ (call-when s counters .1 (long, passes-sound s .0 e))
-
-pub admitted-cells : (s : Site) (counters : List ℕ) (f : Flow) → admitRuling s counters f ≡ accepted tt → 9 * f .number + 9 ≤ length counters
-admitted-cells s counters f e = let w = admits-when s counters f .0 e in omega (arith, w .counted, w .good .within .number-most)
 
 -- So is a release.
 pub releases-when : (s : Site) (counters : List ℕ) (n : ℕ) → (releaseRuling s counters n ≡ accepted tt) ↔ Releasable s counters n

@@ -79,7 +79,7 @@ fn clear_cells(verdict: Verdict, counters: &mut [u32], number: u8)
     }
 }
 
-// Takes a flow in.
+// 01: an accepted admission makes the flow live and sets its nine cells to 0.
 pub fn admit(site: Site, counters: &mut [u32], flow: Flow) -> Judged
     ensures { λ r. ⌜ (ruling (r .verdict), r .site, now (counters .exit)) ≡ admitOf site (now (counters .entry)) flow ⌝ }
 {
@@ -94,7 +94,7 @@ pub fn admit(site: Site, counters: &mut [u32], flow: Flow) -> Judged
     }
 }
 
-// Lets a flow go.
+// 01: an accepted release frees the number and its widths and sets its nine cells to 0.
 pub fn release(site: Site, counters: &mut [u32], number: u8) -> Judged
     ensures { λ r. ⌜ (ruling (r .verdict), r .site, now (counters .exit)) ≡ releaseOf site (now (counters .entry)) number ⌝ }
 {

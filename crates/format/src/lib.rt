@@ -26,14 +26,14 @@ pub fn schedule_size(tag: u8) -> usize
     0
 }
 
-// The number of two bytes.
+// 01: the low byte comes first.
 pub fn word(low: u8, high: u8) -> u16
     ensures { λ r. ⌜ r ≡ low + 256 * high ⌝ }
 {
     low as u16 + 256 * high as u16
 }
 
-// The two bytes of a number.
+// For the writers, the low byte first as well.
 pub fn low(v: u16) -> u8
     ensures { λ r. ⌜ r ≡ v % 256 ⌝ }
 {

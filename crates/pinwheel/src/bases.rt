@@ -7,7 +7,7 @@ ghost use Rattle.lists.specs.Lists.{smallest, largest};
 ghost use Rattle.pinwheel.specs.Rule.{period, sum, limit, base};
 ghost use Rattle.pinwheel.specs.Inner.{AllowedBase};
 
-// The smallest and the largest gap.
+// One pass for both: rule 1 bounds the bases by the smallest gap, and the largest has the limit of rule 3 for its period.
 struct Span {
     low: u16,
     high: u16,
@@ -33,7 +33,7 @@ fn span_of(gaps: &[u16]) -> Span
     Span { low, high }
 }
 
-// The two sides of the test whether a base fits.
+// Rule 3 in whole numbers: the sum, and what it may come to.
 struct Figures {
     sum: u32,
     limit: u32,

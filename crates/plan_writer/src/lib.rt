@@ -10,7 +10,7 @@ ghost use Rattle.plan_writer.specs.Write.{nodeCommand, nodeBytes, flowCo
 ghost use Rattle.lists.specs.Lists.{joined};
 ghost use Rattle.site_check.specs.Check.{writtenIf};
 
-// The commands: NODE, FLOW and LINK.
+// NODE and FLOW byte by byte; plans that are typed are made of them too.
 pub fn node_command(parent: u8, capacity: u16, gap: u16) -> [u8; 6]
     ensures { λ r. ⌜ r ≡ nodeCommand parent capacity gap ⌝ }
 {
@@ -74,7 +74,7 @@ fn put_flows(site: Site, start: usize, out: &mut [u8]) -> usize
     at
 }
 
-// How many bytes the live flows take.
+// The slice is judged before anything is stored, so the flows are measured first.
 fn flows_size(site: Site) -> usize
     ensures { λ r. ⌜ r ≡ length (joined (flowIfLive site) 64 0) ⌝ }
 {
@@ -116,7 +116,7 @@ pub fn encode_plan(site: Site, out: &mut [u8]) -> Written
     put_plan(site, out)
 }
 
-// The plan bytes of a site.
+// 01: a writer asks 14 first and judges the slice last.
 pub fn write_plan(site: Site, out: &mut [u8]) -> Written
     ensures { λ r. ⌜ (writing r, now (out .exit)) ≡ writtenIf site (planBytes site) (now (out .entry)) ⌝ }
 {

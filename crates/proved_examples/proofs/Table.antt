@@ -36,5 +36,13 @@ use Rattle.report_lines.specs.Lines.{refusal}
 use Rattle.proved_examples.specs.Table.{Holds, table}
 
 pub table-holds : All Holds table
-unfolding All moved arrived delivering passed step hopsAlong hopsOf cellsOf linkSends recounted overflows firstOverflow unexpected firstUnexpected arrivalsRuling slotRuling cellsAfter slotOf checked settled orElse block withBlock withCells zeros unfit firstUnfit callFault change flowRuling admitRuling admitOf last first any total largest least smallest exponent period sum limit fits base periodsOf sends earlier taken freeOffset turn level levels offsetsFor offsetsOf badGap firstBad assigned ofLink live withFlow withSchedule up depthIn depthOf climb route has used gapsFrom gapsUnder rank assignedUnder baseOf baseUnder crowded firstCrowded entryAssigned listed offsetsAssigned periodsAssigned scheduled periodsJudged routeOf widthAt widthOn sumTo load over firstOver along late firstLate withSite reserved judgeOf numberAt bytesOf nodeAt flowAt badNode badFlow nodeLimits misplaced flowLimits nodeFault flowFault laterFault sizeOf faultOf ended readFrom withNode nodeAdded flowAdded after decode judgeForm readOf linkBytes joined scheduleOf scheduleBytes written handed shaped nodeOf flowOf illNode illFlow firstIllNode firstIllFlow formed same accepts stands passesOf delayBound digitsBy decimal textOf linkLine flowLine flowLineIf flowCount countsLine refusal siteLines reportLines reportOf
+unfolding All moved arrived delivering passed step hopsAlong hopsOf cellsOf linkSends recounted overflows firstOverflow unexpected firstUnexpected arrivalsRuling
+    slotRuling cellsAfter slotOf checked settled orElse block withBlock withCells zeros unfit firstUnfit callFault change flowRuling admitRuling admitOf last first
+    any total largest least smallest exponent period sum limit fits base periodsOf sends earlier taken freeOffset turn level levels offsetsFor offsetsOf badGap
+    firstBad assigned ofLink live withFlow withSchedule up depthIn depthOf climb route has used gapsFrom gapsUnder rank assignedUnder baseOf baseUnder crowded
+    firstCrowded entryAssigned listed offsetsAssigned periodsAssigned scheduled periodsJudged routeOf widthAt widthOn sumTo load over firstOver along late firstLate
+    withSite reserved judgeOf numberAt bytesOf nodeAt flowAt badNode badFlow nodeLimits misplaced flowLimits nodeFault flowFault laterFault sizeOf faultOf ended
+    readFrom withNode nodeAdded flowAdded after decode judgeForm readOf linkBytes joined scheduleOf scheduleBytes written handed shaped nodeOf flowOf illNode illFlow
+    firstIllNode firstIllFlow formed same accepts stands passesOf delayBound digitsBy decimal textOf linkLine flowLine flowLineIf flowCount countsLine refusal
+    siteLines reportLines reportOf
 table-holds = (refl, (refl, (refl, (refl, (refl, (refl, (refl, (refl, (refl, (refl, (refl, (refl, (refl, (refl, (refl, (refl, tt))))))))))))))))

@@ -1,4 +1,5 @@
--- What is proved of one flow's queues: one slot in words, cell by cell. The modules named here hold what a slot does to the sum of the cells, and the delay and the backlog
+-- What is proved of one flow's queues: one slot in words, cell by cell. The modules named here hold what a slot does to the sum of the cells, and the
+-- delay and the backlog
 -- of a flow whose hops serve it: `delivered-by`, `waiting-after` and `waiting-within`, for any curve below its arrivals.
 pub mod Cells
 pub mod Delay

@@ -28,7 +28,13 @@ fn sum_along<'a>(values: &'a [u16], parents: &'a [u8], node: u8) -> u32
 }
 
 // Adds a flow's width on each link from its entry node up, and sums up the periods of these links on the way.
-fn add_widths<'a>(periods: &'a [u16], parents: &'a [u8], entry: u8, rate: u8, loads: &mut [u32]) -> u32
+fn add_widths<'a>(
+    periods: &'a [u16],
+    parents: &'a [u8],
+    entry: u8,
+    rate: u8,
+    loads: &mut [u32],
+) -> u32
     requires { ⌜ (length (now loads) ≡ length (now parents)) × ((i : ℕ) → getD (now loads) i 0 ≤ 4000000000) ⌝ }
     ensures { λ r. ⌜ (r ≡ along (now (periods .entry)) (route (now (parents .entry)) entry))
         × (now (loads .exit) ≡ carried (now (periods .entry)) rate (route (now (parents .entry)) entry) (now (loads .entry))) ⌝ }

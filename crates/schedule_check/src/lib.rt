@@ -74,7 +74,7 @@ fn rest_used<'a>(links: u8, offsets: &'a [u16; 63], periods: &'a [u16; 63]) -> b
     used
 }
 
-// Check 14 of a schedule.
+// 02, U1: whether some schedule file reads to it.
 pub fn passes(schedule: Schedule) -> bool
     ensures { λ r. ⌜ r ≡ schedulePasses schedule ⌝ }
 {

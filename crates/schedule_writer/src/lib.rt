@@ -61,7 +61,7 @@ pub fn encode_schedule(schedule: Schedule, out: &mut [u8]) -> Written
     Written::Length(size)
 }
 
-// The schedule of a site.
+// What a schedule file tells of a site: neither parents nor flows.
 pub fn schedule_of(site: Site) -> Schedule
     ensures { λ r. ⌜ r ≡ scheduleOf site ⌝ }
 {
@@ -74,7 +74,7 @@ pub fn schedule_of(site: Site) -> Schedule
     }
 }
 
-// The schedule bytes of a site.
+// 01: 14 of the site first, the slice last.
 pub fn write_schedule(site: Site, out: &mut [u8]) -> Written
     ensures { λ r. ⌜ (writing r, now (out .exit)) ≡ writtenIf site (scheduleBytes (scheduleOf site)) (now (out .entry)) ⌝ }
 {
@@ -84,7 +84,7 @@ pub fn write_schedule(site: Site, out: &mut [u8]) -> Written
     encode_schedule(schedule_of(site), out)
 }
 
-// The bytes of a schedule.
+// 02, U1: a schedule by itself has a check 14 of its own.
 pub fn write_schedule_of(schedule: Schedule, out: &mut [u8]) -> Written
     ensures { λ r. ⌜ (writing r, now (out .exit)) ≡ scheduleWritten schedule (now (out .entry)) ⌝ }
 {

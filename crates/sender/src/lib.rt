@@ -37,7 +37,7 @@ pub fn look_up(site: Site, parent: u8, slot: u32) -> Lookup
     Lookup::Child(sending_child(site, parent, slot))
 }
 
-// Which child of the parent sends in the slot.
+// 01: the lookup of parent and slot asks 14, then 6.
 pub fn sender(site: Site, parent: u8, slot: u32) -> Lookup
     ensures { λ r. ⌜ found r ≡ senderOf site parent slot ⌝ }
 {

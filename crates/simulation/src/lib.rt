@@ -7,7 +7,7 @@ ghost use Rattle.rulings.specs.Outcome.{ruling};
 ghost use Rattle.moves.specs.Hops.{own};
 ghost use Rattle.simulation.specs.Slot.{slotOf, startOf};
 
-// Starts a rehearsal: all counters become 0.
+// 01: a start sets all 576 counters to 0.
 pub fn start(site: Site, counters: &mut [u32]) -> Verdict
     ensures { λ r. ⌜ (ruling r, now (counters .exit)) ≡ startOf site (now (counters .entry)) ⌝ }
 {

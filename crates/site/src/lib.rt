@@ -25,7 +25,7 @@ pub struct Flow {
     pub deadline: u16,
 }
 
-// The site without links and flows.
+// 01: what a refused reading gives and, by 02, U3, what END alone reads to.
 pub fn empty() -> Site
     ensures { λ r. ⌜ r ≡ emptySite ⌝ }
 {
@@ -75,7 +75,7 @@ pub fn without_flow(site: Site, number: u8) -> Site
     next
 }
 
-// Whether a flow of that number is live.
+// A number above 63 is no flow's.
 pub fn is_live(site: Site, number: u8) -> bool
     ensures { λ r. ⌜ r ≡ live site number ⌝ }
 {
@@ -96,7 +96,7 @@ pub fn link_count(links: u8) -> usize
     links as usize
 }
 
-// How many flows are live.
+// Told beside the number of links, in print and to hosts.
 pub fn flow_count(site: Site) -> u64
     ensures { λ r. ⌜ r ≡ flowCount site ⌝ }
 {

@@ -6,7 +6,7 @@ ghost use lib.ListN.{length, take, drop};
 ghost use Rattle.slices.specs.Put.{put as put·};
 ghost use Rattle.lists.specs.Lists.{same as same·};
 
-// The word from index `at` on.
+// Apart from `put`, so that the test of room and the loop each have a function.
 fn store(out: &mut [u8], at: usize, word: &[u8])
     requires { ⌜ at + length (now word) ≤ length (now out) ⌝ }
     ensures { λ _. ⌜ now (out .exit) ≡ take at (now (out .entry)) ++ now (word .entry) ++ drop (at + length (now (word .entry))) (now (out .entry)) ⌝ }
@@ -34,7 +34,7 @@ pub fn put(out: &mut [u8], at: usize, word: &[u8]) -> usize
     at + size
 }
 
-// Whether the word has just the bytes of the name.
+// Names in typed text are compared byte by byte: a longer word is another one.
 pub fn same(word: &[u8], name: &[u8]) -> bool
     ensures { λ r. ⌜ r ≡ same· (now (word .entry)) (now (name .entry)) ⌝ }
 {

@@ -41,7 +41,13 @@ played-run σ₀ (c ∷ cs) l σ run = played-run σ₀ cs _ _ (then c (called o
 
 -- What the definitions give, by computing. Where the lists begin, and G = 7.
 pub begins-p : Begins 0 stateP
-unfolding called played stateP moved arrived delivering passed step hopsAlong hopsOf cellsOf linkSends recounted overflows firstOverflow unexpected firstUnexpected arrivalsRuling slotRuling cellsAfter slotOf startRuling startOf checked settled block withBlock withCells zeros unfit firstUnfit callFault change flowRuling admitRuling admitOf numberRuling releaseRuling releaseOf last first any total largest least smallest exponent period sum limit fits base periodsOf sends earlier taken freeOffset turn level levels offsetsFor offsetsOf badGap firstBad assigned ofLink live withFlow withoutFlow withSchedule up depthIn depthOf climb route has used gapsFrom gapsUnder rank assignedUnder baseOf baseUnder crowded firstCrowded entryAssigned listed offsetsAssigned periodsAssigned scheduled periodsJudged routeOf widthAt widthOn sumTo load over firstOver along late firstLate reserved judgeOf badNode badFlow nodeLimits misplaced flowLimits joined shaped nodeOf flowOf illNode illFlow firstIllNode firstIllFlow formed same accepts stands passesOf
+unfolding called played stateP moved arrived delivering passed step hopsAlong hopsOf cellsOf linkSends recounted overflows firstOverflow unexpected firstUnexpected
+    arrivalsRuling slotRuling cellsAfter slotOf startRuling startOf checked settled block withBlock withCells zeros unfit firstUnfit callFault change flowRuling
+    admitRuling admitOf numberRuling releaseRuling releaseOf last first any total largest least smallest exponent period sum limit fits base periodsOf sends earlier
+    taken freeOffset turn level levels offsetsFor offsetsOf badGap firstBad assigned ofLink live withFlow withoutFlow withSchedule up depthIn depthOf climb route has
+    used gapsFrom gapsUnder rank assignedUnder baseOf baseUnder crowded firstCrowded entryAssigned listed offsetsAssigned periodsAssigned scheduled periodsJudged
+    routeOf widthAt widthOn sumTo load over firstOver along late firstLate reserved judgeOf badNode badFlow nodeLimits misplaced flowLimits joined shaped nodeOf
+    flowOf illNode illFlow firstIllNode firstIllFlow formed same accepts stands passesOf
 begins-p = record { passes = refl; counted = refl; living = refl; empty = refl }
 
 pub bound-p : boundOf own readP 0 ≡ 7
@@ -67,15 +73,33 @@ pub record SixteenPlayed : Type 0 where
   pub wait : waiting (arrived 3 (cellsOf 0 (played sixteen [] stateP .1 .counters))) ≡ 21
 
 pub mixed-played : MixedPlayed
-unfolding called played stateP moved arrived delivering passed step hopsAlong hopsOf cellsOf linkSends recounted overflows firstOverflow unexpected firstUnexpected arrivalsRuling slotRuling cellsAfter slotOf startRuling startOf checked settled block withBlock withCells zeros unfit firstUnfit callFault change flowRuling admitRuling admitOf numberRuling releaseRuling releaseOf last first any total largest least smallest exponent period sum limit fits base periodsOf sends earlier taken freeOffset turn level levels offsetsFor offsetsOf badGap firstBad assigned ofLink live withFlow withoutFlow withSchedule up depthIn depthOf climb route has used gapsFrom gapsUnder rank assignedUnder baseOf baseUnder crowded firstCrowded entryAssigned listed offsetsAssigned periodsAssigned scheduled periodsJudged routeOf widthAt widthOn sumTo load over firstOver along late firstLate reserved judgeOf badNode badFlow nodeLimits misplaced flowLimits joined shaped nodeOf flowOf illNode illFlow firstIllNode firstIllFlow formed same accepts stands passesOf
+unfolding called played stateP moved arrived delivering passed step hopsAlong hopsOf cellsOf linkSends recounted overflows firstOverflow unexpected firstUnexpected
+    arrivalsRuling slotRuling cellsAfter slotOf startRuling startOf checked settled block withBlock withCells zeros unfit firstUnfit callFault change flowRuling
+    admitRuling admitOf numberRuling releaseRuling releaseOf last first any total largest least smallest exponent period sum limit fits base periodsOf sends earlier
+    taken freeOffset turn level levels offsetsFor offsetsOf badGap firstBad assigned ofLink live withFlow withoutFlow withSchedule up depthIn depthOf climb route has
+    used gapsFrom gapsUnder rank assignedUnder baseOf baseUnder crowded firstCrowded entryAssigned listed offsetsAssigned periodsAssigned scheduled periodsJudged
+    routeOf widthAt widthOn sumTo load over firstOver along late firstLate reserved judgeOf badNode badFlow nodeLimits misplaced flowLimits joined shaped nodeOf
+    flowOf illNode illFlow firstIllNode firstIllFlow formed same accepts stands passesOf
 mixed-played = record { log = refl; cells = refl }
 
 pub lone-played : LonePlayed
-unfolding called played stateP moved arrived delivering passed step hopsAlong hopsOf cellsOf linkSends recounted overflows firstOverflow unexpected firstUnexpected arrivalsRuling slotRuling cellsAfter slotOf startRuling startOf checked settled block withBlock withCells zeros unfit firstUnfit callFault change flowRuling admitRuling admitOf numberRuling releaseRuling releaseOf last first any total largest least smallest exponent period sum limit fits base periodsOf sends earlier taken freeOffset turn level levels offsetsFor offsetsOf badGap firstBad assigned ofLink live withFlow withoutFlow withSchedule up depthIn depthOf climb route has used gapsFrom gapsUnder rank assignedUnder baseOf baseUnder crowded firstCrowded entryAssigned listed offsetsAssigned periodsAssigned scheduled periodsJudged routeOf widthAt widthOn sumTo load over firstOver along late firstLate reserved judgeOf badNode badFlow nodeLimits misplaced flowLimits joined shaped nodeOf flowOf illNode illFlow firstIllNode firstIllFlow formed same accepts stands passesOf delivered
+unfolding called played stateP moved arrived delivering passed step hopsAlong hopsOf cellsOf linkSends recounted overflows firstOverflow unexpected firstUnexpected
+    arrivalsRuling slotRuling cellsAfter slotOf startRuling startOf checked settled block withBlock withCells zeros unfit firstUnfit callFault change flowRuling
+    admitRuling admitOf numberRuling releaseRuling releaseOf last first any total largest least smallest exponent period sum limit fits base periodsOf sends earlier
+    taken freeOffset turn level levels offsetsFor offsetsOf badGap firstBad assigned ofLink live withFlow withoutFlow withSchedule up depthIn depthOf climb route has
+    used gapsFrom gapsUnder rank assignedUnder baseOf baseUnder crowded firstCrowded entryAssigned listed offsetsAssigned periodsAssigned scheduled periodsJudged
+    routeOf widthAt widthOn sumTo load over firstOver along late firstLate reserved judgeOf badNode badFlow nodeLimits misplaced flowLimits joined shaped nodeOf
+    flowOf illNode illFlow firstIllNode firstIllFlow formed same accepts stands passesOf delivered
 lone-played = record { log = refl; later = refl; waits = refl; leaves = refl }
 
 pub sixteen-played : SixteenPlayed
-unfolding called played stateP moved arrived delivering passed step hopsAlong hopsOf cellsOf linkSends recounted overflows firstOverflow unexpected firstUnexpected arrivalsRuling slotRuling cellsAfter slotOf startRuling startOf checked settled block withBlock withCells zeros unfit firstUnfit callFault change flowRuling admitRuling admitOf numberRuling releaseRuling releaseOf last first any total largest least smallest exponent period sum limit fits base periodsOf sends earlier taken freeOffset turn level levels offsetsFor offsetsOf badGap firstBad assigned ofLink live withFlow withoutFlow withSchedule up depthIn depthOf climb route has used gapsFrom gapsUnder rank assignedUnder baseOf baseUnder crowded firstCrowded entryAssigned listed offsetsAssigned periodsAssigned scheduled periodsJudged routeOf widthAt widthOn sumTo load over firstOver along late firstLate reserved judgeOf badNode badFlow nodeLimits misplaced flowLimits joined shaped nodeOf flowOf illNode illFlow firstIllNode firstIllFlow formed same accepts stands passesOf waiting
+unfolding called played stateP moved arrived delivering passed step hopsAlong hopsOf cellsOf linkSends recounted overflows firstOverflow unexpected firstUnexpected
+    arrivalsRuling slotRuling cellsAfter slotOf startRuling startOf checked settled block withBlock withCells zeros unfit firstUnfit callFault change flowRuling
+    admitRuling admitOf numberRuling releaseRuling releaseOf last first any total largest least smallest exponent period sum limit fits base periodsOf sends earlier
+    taken freeOffset turn level levels offsetsFor offsetsOf badGap firstBad assigned ofLink live withFlow withoutFlow withSchedule up depthIn depthOf climb route has
+    used gapsFrom gapsUnder rank assignedUnder baseOf baseUnder crowded firstCrowded entryAssigned listed offsetsAssigned periodsAssigned scheduled periodsJudged
+    routeOf widthAt widthOn sumTo load over firstOver along late firstLate reserved judgeOf badNode badFlow nodeLimits misplaced flowLimits joined shaped nodeOf
+    flowOf illNode illFlow firstIllNode firstIllFlow formed same accepts stands passesOf waiting
 sixteen-played = record { log = refl; next = refl; wait = refl }
 
 -- Flow f stays admitted and no rehearsal starts anew in this log; and so in one with accepted slots on top.
@@ -151,7 +175,8 @@ waiting-tight claim =
     let w = claim 0 stateP _ _ seventeen begins-p (rw (sixteen-played .log) seventeen-allowed) in
     omega (arith, sixteen-played .wait, rw bound-p at (w .1))
 
--- Flow 5, which 02, U2, lets in, meets both bounds too. After its slots 2 to 4 nothing is delivered; in slot 5, when its arrivals have joined, 16 = rate × G wait, and all of
+-- Flow 5, which 02, U2, lets in, meets both bounds too. After its slots 2 to 4 nothing is delivered; in slot 5, when its arrivals have joined, 16 =
+-- rate × G wait, and all of
 -- them leave in that slot: link 2's width is just so many.
 pub record FivePlayed : Type 0 where
   pub answer : called own (admit flowFive) stateP ≡ (accepted tt, stateFive)
@@ -163,11 +188,18 @@ pub record FivePlayed : Type 0 where
   pub leaves : cellsOf 5 (played (pacedSlots 4) [] stateFive .1 .counters) ≡ 0 ∷ 0 ∷ 0 ∷ 0 ∷ 0 ∷ 0 ∷ 0 ∷ 0 ∷ 16 ∷ []
 
 pub five-played : FivePlayed
-unfolding called played stateP stateFive moved arrived delivering passed step hopsAlong hopsOf cellsOf linkSends recounted overflows firstOverflow unexpected firstUnexpected arrivalsRuling slotRuling cellsAfter slotOf startRuling startOf checked settled block withBlock withCells zeros unfit firstUnfit callFault change flowRuling admitRuling admitOf numberRuling releaseRuling releaseOf last first any total largest least smallest exponent period sum limit fits base periodsOf sends earlier taken freeOffset turn level levels offsetsFor offsetsOf badGap firstBad assigned ofLink live withFlow withoutFlow withSchedule up depthIn depthOf climb route has used gapsFrom gapsUnder rank assignedUnder baseOf baseUnder crowded firstCrowded entryAssigned listed offsetsAssigned periodsAssigned scheduled periodsJudged routeOf widthAt widthOn sumTo load over firstOver along late firstLate reserved judgeOf badNode badFlow nodeLimits misplaced flowLimits joined shaped nodeOf flowOf illNode illFlow firstIllNode firstIllFlow formed same accepts stands passesOf span
+unfolding called played stateP stateFive moved arrived delivering passed step hopsAlong hopsOf cellsOf linkSends recounted overflows firstOverflow unexpected
+    firstUnexpected arrivalsRuling slotRuling cellsAfter slotOf startRuling startOf checked settled block withBlock withCells zeros unfit firstUnfit callFault change
+    flowRuling admitRuling admitOf numberRuling releaseRuling releaseOf last first any total largest least smallest exponent period sum limit fits base periodsOf
+    sends earlier taken freeOffset turn level levels offsetsFor offsetsOf badGap firstBad assigned ofLink live withFlow withoutFlow withSchedule up depthIn depthOf
+    climb route has used gapsFrom gapsUnder rank assignedUnder baseOf baseUnder crowded firstCrowded entryAssigned listed offsetsAssigned periodsAssigned scheduled
+    periodsJudged routeOf widthAt widthOn sumTo load over firstOver along late firstLate reserved judgeOf badNode badFlow nodeLimits misplaced flowLimits joined
+    shaped nodeOf flowOf illNode illFlow firstIllNode firstIllFlow formed same accepts stands passesOf span
 five-played = record { answer = refl; rate = refl; bound = refl; log = refl; later = refl; waits = refl; leaves = refl }
 
 -- All of demand 3 holds of it from its admission on.
-pub five-kept : Kept own 5 stateFive (played (pacedSlots 4) [] stateFive .0) (played (pacedSlots 4) [] stateFive .1) (played-run stateFive (pacedSlots 4) [] stateFive none)
+pub five-kept : Kept own 5 stateFive (played (pacedSlots 4) [] stateFive .0) (played (pacedSlots 4) [] stateFive .1)
+    (played-run stateFive (pacedSlots 4) [] stateFive none)
 unfolding All Rising slotsOf entered
 five-kept =
     let calm = calm-slots 5 4 2 (arrivalsP 0 4) [] (tt, tt) in

@@ -36,7 +36,12 @@ pub record LanesRead : Type 0 where
   pub punctual : (t : Site) × (readOf (lanes 3) ≡ accepted t)
 
 pub lanes-read : LanesRead
-unfolding last first any total largest least smallest exponent period sum limit fits base periodsOf sends earlier taken freeOffset turn level levels offsetsFor offsetsOf badGap firstBad assigned ofLink live withFlow withSchedule up depthIn depthOf climb route has used gapsFrom gapsUnder rank assignedUnder baseOf baseUnder crowded firstCrowded entryAssigned listed offsetsAssigned periodsAssigned scheduled periodsJudged routeOf widthAt widthOn sumTo load over firstOver along late firstLate orElse withSite reserved judgeOf numberAt nodeAt flowAt badNode badFlow nodeLimits misplaced flowLimits nodeFault flowFault laterFault sizeOf faultOf ended readFrom withNode nodeAdded flowAdded after decode judgeForm readOf formerWidth formerLoad formerOver firstFormerOver formerLate firstFormerLate formerReserved formerJudgeOf formerForm formerRead
+unfolding last first any total largest least smallest exponent period sum limit fits base periodsOf sends earlier taken freeOffset turn level levels offsetsFor
+    offsetsOf badGap firstBad assigned ofLink live withFlow withSchedule up depthIn depthOf climb route has used gapsFrom gapsUnder rank assignedUnder baseOf
+    baseUnder crowded firstCrowded entryAssigned listed offsetsAssigned periodsAssigned scheduled periodsJudged routeOf widthAt widthOn sumTo load over firstOver
+    along late firstLate orElse withSite reserved judgeOf numberAt nodeAt flowAt badNode badFlow nodeLimits misplaced flowLimits nodeFault flowFault laterFault
+    sizeOf faultOf ended readFrom withNode nodeAdded flowAdded after decode judgeForm readOf formerWidth formerLoad formerOver firstFormerOver formerLate
+    firstFormerLate formerReserved formerJudgeOf formerForm formerRead
 lanes-read = record { full = refl; late = refl; fits = (withSite (readOf (lanes 4)) .1, refl); punctual = (withSite (readOf (lanes 3)) .1, refl) }
 
 all-bytes : (xs : List ℕ) → All (λ (x : ℕ). x < 256) xs → Bytes xs

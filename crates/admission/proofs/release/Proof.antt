@@ -27,7 +27,8 @@ same-length c = search needs
 returns : tie.Need-returns
 unfolding releaseOf
 returns c =
-    call-accepted _ _ (c .before .before .before .before .before .before .before .judge-release .ensures) _ _ _ _ _ (c .before .before .before .before .before .clear-cells .ensures) _ (c .before .enum-told .given .1) (c .without-flow .ensures)
+    call-accepted _ _ (c .before .before .before .before .before .before .before .judge-release .ensures) _ _ _ _ _
+    (c .before .before .before .before .before .clear-cells .ensures) _ (c .before .enum-told .given .1) (c .without-flow .ensures)
     (released-cells _ _ _)
 
 same-length-2 : tie.Need-same-length-2
@@ -35,7 +36,8 @@ same-length-2 c = search needs
 
 returns-2 : tie.Need-returns-2
 unfolding releaseOf
-returns-2 c = call-refused _ _ (c .before .before .before .before .before .before .before .judge-release .ensures) _ _ _ _ _ (c .before .before .before .before .before .clear-cells .ensures) _ _ (c .before .verdict .given .1)
+returns-2 c = call-refused _ _ (c .before .before .before .before .before .before .before .judge-release .ensures) _ _ _ _ _
+    (c .before .before .before .before .before .clear-cells .ensures) _ _ (c .before .verdict .given .1)
 
 pub release-spec : {M : Type 1} → statement M
 release-spec =

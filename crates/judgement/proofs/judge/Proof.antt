@@ -33,7 +33,8 @@ refusal-requires : tie.Need-refusal-requires
 refusal-requires c κs = search needs
 
 returns : tie.Need-returns
-returns c = c .refusal .ensures ∙ refuse-crowded _ _ _ (c .before .before .before .link-count .ensures) (c .before .before .assign-all .ensures .crowded) (c .before .if1 .taken)
+returns c = c .refusal .ensures ∙ refuse-crowded _ _ _ (c .before .before .before .link-count .ensures) (c .before .before .assign-all .ensures .crowded)
+    (c .before .if1 .taken)
 
 first-faults-requires : tie.Need-first-faults-requires
 first-faults-requires c κs = search needs

@@ -261,7 +261,8 @@ module _ (s : Site) (t : ℕ) (cs₀ xs : List ℕ) (m : AllMovable s cs₀ xs) 
     step-on : (ds : List ℕ) → ds ≡ joined (cellsAfter own s cs₀ xs t) (n + 1) 0 ++ drop (9 * (n + 1)) cs₀ → Stepping s t cs₀ xs ds (n + 1)
     step-on ds e = record {
       most = omega arith;
-      long = rw e (simp (length-append, length-joined 9 (cellsAfter own s cs₀ xs t) (n + 1) 0 (λ k lo hi. nine k (omega arith)), length-drop) (omega (arith, m .counted)));
+      long = rw e (simp (length-append, length-joined 9 (cellsAfter own s cs₀ xs t) (n + 1) 0 (λ k lo hi. nine k (omega arith)), length-drop)
+          (omega (arith, m .counted)));
       done = e;
     }
 

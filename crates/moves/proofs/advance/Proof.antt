@@ -25,7 +25,8 @@ same-length c = search needs
 
 returns : tie.Need-returns
 unfolding advanceOf
-returns c = recount-accepted _ _ (c .before .before .before .before .before .before .judge-arrivals .ensures) _ _ _ (c .before .before .before .before .enum-told .given .1) (c .before .before .move-all .ensures)
+returns c = recount-accepted _ _ (c .before .before .before .before .before .before .judge-arrivals .ensures) _ _ _
+    (c .before .before .before .before .enum-told .given .1) (c .before .before .move-all .ensures)
 
 same-length-2 : tie.Need-same-length-2
 same-length-2 c = search needs

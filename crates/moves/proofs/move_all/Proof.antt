@@ -71,7 +71,8 @@ loop-again : tie.Need-loop-again Inv-loop μ-loop
 loop-again c = let pre = c .before .before .before .before .before .before .before .before .pre in
     let stepping = c .before .before .before .loop .inv in
     elim (c .if1 .came) [
-      | inl w ↦ rw (w .10) (stepping-live _ _ _ _ pre _ _ stepping (search needs) (w .0 .taken) _ _ (c .before .before .before .before .before .periods-sending .ensures) (w .7 .ensures))
+      | inl w ↦ rw (w .10) (stepping-live _ _ _ _ pre _ _ stepping (search needs) (w .0 .taken) _ _
+          (c .before .before .before .before .before .periods-sending .ensures) (w .7 .ensures))
       | inr w ↦ rw (w .1) (stepping-dead _ _ _ _ pre _ _ stepping (search needs) (w .0 .left))
     ]
 

@@ -12,7 +12,8 @@ use Rattle.moves.proofs.move_packets.Statement.{statement}
 use Rattle.moves.proofs.move_packets.Tie as tie
 
 abbrev Inv-loop : tie.InvT-loop
-Inv-loop cells₀ parents sending entry rate arrival joining coming₀ node₀ k₀ cells coming node k = Moving (inSlot sending rate) parents 0 (onward (hopsIn parents sending rate node₀) 0 0 0 cells₀) cells coming k node
+Inv-loop cells₀ parents sending entry rate arrival joining coming₀ node₀ k₀ cells coming node k =
+    Moving (inSlot sending rate) parents 0 (onward (hopsIn parents sending rate node₀) 0 0 0 cells₀) cells coming k node
 
 abbrev μ-loop : tie.MeasureT-loop
 μ-loop cells₀ parents sending entry rate arrival joining coming₀ node₀ k₀ cells coming node k = node
@@ -28,7 +29,8 @@ slice-write-cells : tie.Need-slice-write-cells Inv-loop μ-loop
 slice-write-cells c = search needs
 
 loop-holds : tie.Need-loop-holds Inv-loop μ-loop
-loop-holds c = moving-start _ _ _ (c .before .before .before .before .args .arrival) _ _ (c .before .before .before .before .args .cells .now) (c .before .before .before .before .pre) refl
+loop-holds c = moving-start _ _ _ (c .before .before .before .before .args .arrival) _ _ (c .before .before .before .before .args .cells .now)
+    (c .before .before .before .before .pre) refl
 
 parent-of-requires : tie.Need-parent-of-requires Inv-loop μ-loop
 parent-of-requires c κs = search needs
@@ -43,11 +45,17 @@ slice-write-cells-2 : tie.Need-slice-write-cells-2 Inv-loop μ-loop
 slice-write-cells-2 c = search needs
 
 same-length : tie.Need-same-length Inv-loop μ-loop
-same-length c = simp length-set (omega (arith, c .before .before .before .before .loop .inv .nine, c .before .before .before .before .before .before .before .before .before .pre .nine))
+same-length c = simp length-set (omega (
+  arith,
+  c .before .before .before .before .loop .inv .nine,
+  c .before .before .before .before .before .before .before .before .before .pre .nine,
+))
 
 returns : tie.Need-returns Inv-loop μ-loop
 returns c = moving-end _ _ _ _ _ _ _ _ (c .before .before .before .before .loop .inv) _ (c .before .before .parent-of .ensures) (search needs) (c .before .if1 .taken)
-    ∙ moving-all _ _ _ (c .before .before .before .before .before .before .before .before .before .args .arrival) _ _ (c .before .before .before .before .before .before .before .before .before .args .cells .now) (c .before .before .before .before .before .before .before .before .before .pre) refl
+    ∙ moving-all _ _ _ (c .before .before .before .before .before .before .before .before .before .args .arrival) _ _
+    (c .before .before .before .before .before .before .before .before .before .args .cells .now)
+    (c .before .before .before .before .before .before .before .before .before .pre) refl
 
 mul-queue : tie.Need-mul-queue Inv-loop μ-loop
 mul-queue c = search needs
@@ -65,7 +73,11 @@ cast-width : tie.Need-cast-width Inv-loop μ-loop
 cast-width c = search needs
 
 mul-width : tie.Need-mul-width Inv-loop μ-loop
-mul-width c = omega (arith, width-le (c .before .before .before .before .before .before .before .before .before .before .args .rate) (c .value-of .result) (omega arith) (omega arith))
+mul-width c = omega (
+  arith,
+  width-le (c .before .before .before .before .before .before .before .before .before .before .args .rate) (c .value-of .result)
+      (omega arith) (omega arith),
+)
 
 smaller-requires : tie.Need-smaller-requires Inv-loop μ-loop
 smaller-requires c κs = search needs
@@ -86,7 +98,8 @@ loop-less : tie.Need-loop-less Inv-loop μ-loop
 loop-less c = search needs
 
 loop-again : tie.Need-loop-again Inv-loop μ-loop
-loop-again c = moving-more _ _ _ _ _ _ _ _ (c .before .before .before .before .before .before .loop .inv) _ (c .before .before .before .before .parent-of .ensures) (search needs) (c .before .before .before .if1 .left) _
+loop-again c = moving-more _ _ _ _ _ _ _ _ (c .before .before .before .before .before .before .loop .inv) _ (c .before .before .before .before .parent-of .ensures)
+    (search needs) (c .before .before .before .if1 .left) _
     (moved-in _ _ _ _ _ _ (c .before .value-of .ensures) (c .smaller .ensures))
 
 same-length-2 : tie.Need-same-length-2 Inv-loop μ-loop
@@ -94,7 +107,8 @@ same-length-2 c = omega (arith, c .before .loop .inv .nine, c .before .before .b
 
 returns-2 : tie.Need-returns-2 Inv-loop μ-loop
 returns-2 c = moving-out _ _ _ _ _ _ _ _ (c .before .loop .inv) (search needs)
-    ∙ moving-all _ _ _ (c .before .before .before .before .before .before .args .arrival) _ _ (c .before .before .before .before .before .before .args .cells .now) (c .before .before .before .before .before .before .pre) refl
+    ∙ moving-all _ _ _ (c .before .before .before .before .before .before .args .arrival) _ _ (c .before .before .before .before .before .before .args .cells .now)
+    (c .before .before .before .before .before .before .pre) refl
 
 pub move-packets-spec : {M : Type 1} → statement M
 move-packets-spec =

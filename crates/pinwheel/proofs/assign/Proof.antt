@@ -98,4 +98,5 @@ returns-7 c =
 pub assign-spec : {M : Type 1} → statement M
 assign-spec =
     tie.close
-    (tie.spec returns returns-2 returns-3 returns-4 first-bad-requires returns-5 largest-fitting-requires returns-6 fill-requires fill-requires-2 same-length same-length-2 returns-7)
+    (tie.spec returns returns-2 returns-3 returns-4 first-bad-requires returns-5 largest-fitting-requires returns-6 fill-requires fill-requires-2 same-length
+    same-length-2 returns-7)

@@ -188,7 +188,8 @@ module _ (s : Site) (n next : ℕ) where
   unfolding live
   next-idle f w = record {
     most = omega (arith, w .most);
-    above = λ k l e. ⊎-elim (λ q. absurd (omega (arith, f .idle, eqb-true (getD (s .states) k 0) 1 e, ap (λ (m : ℕ). getD (s .states) m 0) q))) (λ h. w .above k h e) (eq-or-lt-of-le (omega arith));
+    above = λ k l e. ⊎-elim (λ q. absurd (omega (arith, f .idle, eqb-true (getD (s .states) k 0) 1 e, ap (λ (m : ℕ). getD (s .states) m 0) q))) (λ h. w .above k h e)
+        (eq-or-lt-of-le (omega arith));
     top = w .top;
   }
 

@@ -45,7 +45,8 @@ schedule-number bytes small number place e = go (schedule-why bytes small number
     go (no-end s w e n) = omega arith
     go (command s w l t f) =
         first-among (λ (n : ℕ). n ≤ 22) 3 number _ _ (omega arith) (first-among (λ (n : ℕ). n ≤ 22) 2 number _ _ (omega arith)
-        (first-among (λ (n : ℕ). n ≤ 22) 21 number _ _ (omega arith) (first-among (λ (n : ℕ). n ≤ 22) 22 number _ _ (omega arith) (λ f. absurd (first-of-none number f))))) f
+        (first-among (λ (n : ℕ). n ≤ 22) 21 number _ _ (omega arith) (first-among (λ (n : ℕ). n ≤ 22) 22 number _ _ (omega arith)
+        (λ f. absurd (first-of-none number f))))) f
     go (more s at w t e l n) = omega arith
 
 module _ (bytes : List ℕ) (small : Bytes bytes) where

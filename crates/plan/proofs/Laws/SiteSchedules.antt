@@ -46,8 +46,16 @@ module _ (s : Site) (e : passesOf s ≡ true) where
   spare-of : (i : ℕ) → s .links ≤ i → NoLink (getD (s .offsets) i 0) (getD (s .periods) i 0)
   unfolding used
   spare-of i l = ⊎-elim
-      (λ m. let w = entry-unused s i (omega arith) m in record { offset-none = ap (λ (xs : List ℕ). getD xs i 0) (own .0) ∙ w .0; period-none = ap (λ (xs : List ℕ). getD xs i 0) (own .1) ∙ w .1 })
-      (λ m. record { offset-none = beyond (s .offsets) (omega (arith, formed .shape .offsets)); period-none = beyond (s .periods) (omega (arith, formed .shape .periods)) })
+      (λ m. let w = entry-unused s i (omega arith) m in record {
+        offset-none = ap (λ (xs : List ℕ). getD xs i 0) (own .0) ∙ w .0;
+        period-none =
+            ap (λ (xs : List ℕ). getD xs i 0) (own .1) ∙ w .1;
+      })
+      (λ m. record {
+        offset-none = beyond (s .offsets) (omega (arith, formed .shape .offsets));
+        period-none =
+            beyond (s .periods) (omega (arith, formed .shape .periods));
+      })
       (lt-or-le i 63)
     where
       beyond : (xs : List ℕ) → length xs ≤ i → getD xs i 0 ≡ 0

@@ -44,4 +44,5 @@ returns c = flow-at _ _ _ _ _ _ refl refl refl (c .word .ensures)
 pub flow-at-spec : {M : Type 1} → statement M
 flow-at-spec =
     tie.close
-    (tie.spec add-t3 shared-slice-read-t5 add-t6 shared-slice-read-t8 add-t9 shared-slice-read-t11 add-word shared-slice-read-word add-word-2 shared-slice-read-word-2 word-requires returns)
+    (tie.spec add-t3 shared-slice-read-t5 add-t6 shared-slice-read-t8 add-t9 shared-slice-read-t11 add-word shared-slice-read-word add-word-2
+    shared-slice-read-word-2 word-requires returns)

@@ -47,4 +47,5 @@ returns c = node-at _ _ _ _ _ refl (c .before .before .before .word .ensures) (c
 pub node-at-spec : {M : Type 1} → statement M
 node-at-spec =
     tie.close
-    (tie.spec add-t3 shared-slice-read-t5 add-word shared-slice-read-word add-word-2 shared-slice-read-word-2 word-requires add-word-3 shared-slice-read-word-3 add-word-4 shared-slice-read-word-4 word-requires-2 returns)
+    (tie.spec add-t3 shared-slice-read-t5 add-word shared-slice-read-word add-word-2 shared-slice-read-word-2 word-requires add-word-3 shared-slice-read-word-3
+    add-word-4 shared-slice-read-word-4 word-requires-2 returns)

@@ -18,7 +18,8 @@ Inv-loop start out₀ site at₀ n₀ out at n = Stored (flowIfLive site) 64 sta
 abbrev μ-loop : tie.MeasureT-loop
 μ-loop start out₀ site at₀ n₀ out at n = 64 - n
 
-made-of : (c : tie.After-flow-command Inv-loop μ-loop) → c .flow-command .result ≡ flowIfLive (c .before .before .before .before .before .before .before .before .before .args .t1) (c .before .before .before .before .before .before .before .loop .n)
+made-of : (c : tie.After-flow-command Inv-loop μ-loop) → c .flow-command .result ≡ flowIfLive
+    (c .before .before .before .before .before .before .before .before .before .args .t1) (c .before .before .before .before .before .before .before .loop .n)
 made-of c = c .flow-command .ensures ∙ flow-made _ _ ∙ live-bytes _ _ (c .before .before .before .before .if1 .taken)
 
 loop-holds : tie.Need-loop-holds Inv-loop μ-loop
@@ -60,7 +61,12 @@ add-at c =
     let sofar = made .before .before .before .before .before .before .before .loop .inv in
     let room = stored-room _ _ _ _ _ _ _ sofar _ (omega arith) (made-of made) in
     let size = c .size .ensures in
-    omega (arith, live-size (made .before .before .before .before .before .before .before .before .before .args .t1) (made .before .before .before .before .before .before .before .loop .n) (made .before .before .before .before .if1 .taken), ap length (made-of made))
+    omega (
+      arith,
+      live-size (made .before .before .before .before .before .before .before .before .before .args .t1)
+          (made .before .before .before .before .before .before .before .loop .n) (made .before .before .before .before .if1 .taken),
+      ap length (made-of made),
+    )
 
 add-n : tie.Need-add-n Inv-loop μ-loop
 add-n c = search needs

@@ -17,7 +17,8 @@ Inv-loop out₀ site n at₀ i₀ out at i = Stored (nodeBytes site) n 0 out₀ 
 abbrev μ-loop : tie.MeasureT-loop
 μ-loop out₀ site n at₀ i₀ out at i = n - i
 
-made-of : (c : tie.After-node-command Inv-loop μ-loop) → c .node-command .result ≡ nodeBytes (c .before .before .before .before .before .before .before .args .t1) (c .before .before .before .before .before .loop .i)
+made-of : (c : tie.After-node-command Inv-loop μ-loop) → c .node-command .result ≡ nodeBytes (c .before .before .before .before .before .before .before .args .t1)
+    (c .before .before .before .before .before .loop .i)
 made-of c = c .node-command .ensures ∙ node-made _ _
 
 cast-n : tie.Need-cast-n Inv-loop μ-loop
@@ -58,7 +59,12 @@ add-at c =
     let made = c .before .before .before .before .before .before in
     let room = stored-room _ _ _ _ _ _ _ (made .before .before .before .before .before .loop .inv) _ (omega arith) (made-of made) in
     let size = c .size .ensures in
-    omega (arith, node-size (made .before .before .before .before .before .before .before .args .t1) (made .before .before .before .before .before .loop .i), ap length (made-of made))
+    omega (
+      arith,
+      node-size (made .before .before .before .before .before .before .before .args .t1) (made .before .before .before .before .before .loop .i),
+      ap
+          length (made-of made),
+    )
 
 add-i : tie.Need-add-i Inv-loop μ-loop
 add-i c = search needs
@@ -73,7 +79,12 @@ loop-again c =
     let room = stored-room _ _ _ _ _ _ _ sofar _ (omega arith) (made-of made) in
     let long = sofar .long in
     stored-more _ _ _ _ _ _ _ sofar _ _ _ (omega arith) (made-of made) (put-sets _ _ _ _ _ (omega arith) (c .before .before .before .put .ensures))
-    (rw (c .size .ensures, made-of made, node-size (made .before .before .before .before .before .before .before .args .t1) (made .before .before .before .before .before .loop .i)))
+    (rw (
+      c .size .ensures,
+      made-of made,
+      node-size (made .before .before .before .before .before .before .before .args .t1)
+          (made .before .before .before .before .before .loop .i),
+    ))
 
 same-length : tie.Need-same-length Inv-loop μ-loop
 same-length c = c .before .loop .inv .long

@@ -79,4 +79,5 @@ returns-2 c =
 pub put-plan-spec : {M : Type 1} → statement M
 put-plan-spec =
     tie.close
-    (tie.spec size-requires cast-nodes mul-nodes flows-size-requires add-size add-size-2 returns put-nodes-requires put-flows-requires slice-write-out same-length returns-2)
+    (tie.spec size-requires cast-nodes mul-nodes flows-size-requires add-size add-size-2 returns put-nodes-requires put-flows-requires slice-write-out same-length
+    returns-2)

@@ -6,7 +6,8 @@ use Rattle.rehearse.proofs.answer_input.Statement.{statement}
 use Rattle.rehearse.proofs.answer_input.Tie as tie
 
 abbrev Inv-loop : tie.InvT-loop
-Inv-loop space₀ counters₀ bytes₀ now₀ reads₀ space counters bytes now reads = (1024 ≡ length bytes) × (length space ≡ length space₀) × (length counters ≡ length counters₀)
+Inv-loop space₀ counters₀ bytes₀ now₀ reads₀ space counters bytes now reads = (1024 ≡ length bytes) × (length space ≡ length space₀) ×
+    (length counters ≡ length counters₀)
 
 abbrev μ-loop : tie.MeasureT-loop
 μ-loop space₀ counters₀ bytes₀ now₀ reads₀ space counters bytes now reads = reads
@@ -68,4 +69,5 @@ returns-2 c = search needs
 pub answer-input-spec : {M : Type 1} → statement M
 answer-input-spec =
     tie.close
-    (tie.spec Inv-loop μ-loop loop-holds slice-aggregate-read read-requires slice-aggregate-count count-requires sub-take-up part-take-up-start part-take-up-end take-up-requires sub-reads loop-less loop-again same-length same-length-2 returns same-length-3 same-length-4 returns-2)
+    (tie.spec Inv-loop μ-loop loop-holds slice-aggregate-read read-requires slice-aggregate-count count-requires sub-take-up part-take-up-start part-take-up-end
+    take-up-requires sub-reads loop-less loop-again same-length same-length-2 returns same-length-3 same-length-4 returns-2)

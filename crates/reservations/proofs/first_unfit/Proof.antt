@@ -14,7 +14,8 @@ use Rattle.reservations.proofs.first_unfit.Statement.{statement}
 use Rattle.reservations.proofs.first_unfit.Tie as tie
 
 abbrev Inv-loop : tie.InvT-loop
-Inv-loop flow site reserved link₀ link = (link ≤ flow .entry) × (firstUnfit site (flow .rate) (route (site .parents) link) ≡ firstUnfit site (flow .rate) (route (site .parents) (flow .entry)))
+Inv-loop flow site reserved link₀ link = (link ≤ flow .entry) × (firstUnfit site (flow .rate) (route (site .parents) link) ≡ firstUnfit site (flow .rate)
+    (route (site .parents) (flow .entry)))
 
 abbrev μ-loop : tie.MeasureT-loop
 μ-loop flow site reserved link₀ link = link

@@ -58,7 +58,8 @@ element-copy-out-if2 c = search needs
 
 cast-if2 : tie.Need-cast-if2 Inv-loop μ-loop
 cast-if2 c =
-    let flow = c .before .before .before .before .before .before .before .before .before .before .before .before .before .before in omega (arith, deadline-fits (flow .before) (flow .loop .n - 1))
+    let flow = c .before .before .before .before .before .before .before .before .before .before .before .before .before .before in
+    omega (arith, deadline-fits (flow .before) (flow .loop .n - 1))
 
 loop-less : tie.Need-loop-less Inv-loop μ-loop
 loop-less c = search needs

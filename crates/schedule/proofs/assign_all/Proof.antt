@@ -71,7 +71,8 @@ loop-holds : tie.Need-loop-holds Inv-loop μ-loop
 loop-holds c =
     let made = c .before .before .before in (
       rw (c .before .before .zeros .ensures),
-      assigning-start _ _ _ _ (made .before .before .before .before .link-count .ensures) (made .chains-of .ensures) _ _ (c .before .zeros2 .ensures) (c .zeros3 .ensures),
+      assigning-start _ _ _ _ (made .before .before .before .before .link-count .ensures) (made .chains-of .ensures) _ _ (c .before .zeros2 .ensures)
+          (c .zeros3 .ensures),
     )
 
 element-copy-out-child : tie.Need-element-copy-out-child Inv-loop μ-loop
@@ -113,7 +114,12 @@ slice-aggregate-assign-to-3 c = rw (c .before .before .before .zeros5 .ensures)
 
 assign-to-requires : tie.Need-assign-to-requires Inv-loop μ-loop
 assign-to-requires c κs =
-    let g = gathered (c .before .before .before .before .before) in (g .few, g .long, c .before .before .before .before .zeros4 .ensures, c .before .before .before .zeros5 .ensures)
+    let g = gathered (c .before .before .before .before .before) in (
+      g .few,
+      g .long,
+      c .before .before .before .before .zeros4 .ensures,
+      c .before .before .before .zeros5 .ensures,
+    )
 
 slice-aggregate-spread : tie.Need-slice-aggregate-spread Inv-loop μ-loop
 slice-aggregate-spread c = sym (assigned (c .before .before .before .before .before .before .before) .offsets-long)
@@ -136,7 +142,8 @@ spread-requires c κs =
 
 add-p-2 : tie.Need-add-p-2 Inv-loop μ-loop
 add-p-2 c =
-    let sofar = at (turn (asked (c .before .before .before .before .before .before .before .before .before .before .before))) .loop .inv .1 in omega (arith, sofar .most, sofar .links)
+    let sofar = at (turn (asked (c .before .before .before .before .before .before .before .before .before .before .before))) .loop .inv .1 in
+    omega (arith, sofar .most, sofar .links)
 
 loop-less-2 : tie.Need-loop-less-2 Inv-loop μ-loop
 loop-less-2 c = search needs
@@ -147,7 +154,8 @@ loop-again-2 c =
     let parent = turn (asked found) in
     let spread = c .spread .ensures _ _ (chain parent) in (
       gathered (asked found) .long,
-      assigning-more _ _ _ _ _ _ _ (at parent .loop .inv .1) (parent .before .before .loop-test .taken) _ _ _ _ (assigned found) (c .before .before .before .before .before .before .before .before .if2 .left) _ _
+      assigning-more _ _ _ _ _ _ _ (at parent .loop .inv .1) (parent .before .before .loop-test .taken) _ _ _ _ (assigned found)
+          (c .before .before .before .before .before .before .before .before .if2 .left) _ _
           (spread .0) (spread .1),
     )
 

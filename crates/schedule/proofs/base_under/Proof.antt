@@ -64,7 +64,12 @@ slice-aggregate-assign-to-3 c = search needs
 
 assign-to-requires : tie.Need-assign-to-requires
 assign-to-requires c κs =
-    let g = gathered (c .before .before .before .before .before) in (g .few, g .long, c .before .before .before .before .zeros2 .ensures, c .before .before .before .zeros3 .ensures)
+    let g = gathered (c .before .before .before .before .before) in (
+      g .few,
+      g .long,
+      c .before .before .before .before .zeros2 .ensures,
+      c .before .before .before .zeros3 .ensures,
+    )
 
 returns : tie.Need-returns
 returns c = c .before .before .assign-to .ensures _ _ (gathered (c .before .before .before .before .before .before .before .before)) .base

@@ -21,7 +21,8 @@ abbrev μ-loop : tie.MeasureT-loop
 
 step : (c : tie.After-shared-slice-known3 Inv-loop μ-loop)
     → (c .before .before .before .before .loop .i < getD (c .before .before .before .before .before .args .next .now) (c .before .before .before .before .loop .i) 0)
-    × (getD (c .before .before .before .before .before .args .next .now) (c .before .before .before .before .loop .i) 0 ≤ c .before .before .before .before .before .args .links)
+    × (getD (c .before .before .before .before .before .args .next .now) (c .before .before .before .before .loop .i) 0 ≤
+    c .before .before .before .before .before .args .links)
 step c = c .before .before .before .before .before .pre .2 .step _ (omega arith)
 
 loop-holds : tie.Need-loop-holds Inv-loop μ-loop

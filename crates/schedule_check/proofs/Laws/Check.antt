@@ -92,7 +92,8 @@ module _ (s : Schedule) where
     passes-rest e u rest = rw (eq-eqb _ _ (long .0), eq-eqb _ _ (long .1), le-leb _ _ few, ← slots, ← rest, e)
 
   -- What they say of all entries.
-  pub all-well : length (s .offsets) ≡ 63 → length (s .periods) ≡ 63 → s .links ≤ 63 → any bad (s .links) 0 ≡ false → any used (63 - s .links) (s .links) ≡ false → Listed s
+  pub all-well : length (s .offsets) ≡ 63 → length (s .periods) ≡ 63 → s .links ≤ 63 → any bad (s .links) 0 ≡ false → any used (63 - s .links) (s .links) ≡ false
+      → Listed s
   all-well o p few slots rest = record {
     offsets-long = o;
     periods-long = p;

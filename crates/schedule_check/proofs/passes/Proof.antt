@@ -21,7 +21,8 @@ rest-used-requires c κs = search needs
 returns-3 : tie.Need-returns-3
 returns-3 c = let asked = c .before .before .before .before .before in
     let start = asked .before .before .before .before .before in
-    passes-rest _ (long-schedule (start .args .t1) _ (start .good .0)) (omega arith) _ (asked .slots-bad .ensures) (c .before .before .before .before .if2 .left) _ (c .rest-used .ensures)
+    passes-rest _ (long-schedule (start .args .t1) _ (start .good .0)) (omega arith) _ (asked .slots-bad .ensures) (c .before .before .before .before .if2 .left) _
+    (c .rest-used .ensures)
 
 pub passes-spec : {M : Type 1} → statement M
 passes-spec =

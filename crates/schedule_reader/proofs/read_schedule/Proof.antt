@@ -101,7 +101,8 @@ loop-less c = let w = moved c in omega arith
 
 loop-again : tie.Need-loop-again Inv-loop μ-loop
 unfolding linkAdded
-loop-again c = rw (c .schedule-size .ensures) (schedule-go _ _ _ (omega arith) (c .before .before .before .before .before .if1 .left) (none (c .before .before .before)) _ (c .before .before .link-at .ensures) (turn (c .before .before .before) .loop .inv))
+loop-again c = rw (c .schedule-size .ensures) (schedule-go _ _ _ (omega arith) (c .before .before .before .before .before .if1 .left)
+    (none (c .before .before .before)) _ (c .before .before .link-at .ensures) (turn (c .before .before .before) .loop .inv))
 
 refusal-requires-2 : tie.Need-refusal-requires-2 Inv-loop μ-loop
 refusal-requires-2 c κs = search needs

@@ -26,10 +26,22 @@ returns-2 : tie.Need-returns-2
 returns-2 c = encoded-few _ _ _ (omega arith) _ (written-short _ _ _ (schedule-size _ _ (c .before .schedule-size .ensures)) (omega arith))
 
 put-links-requires : tie.Need-put-links-requires
-put-links-requires c κs = (omega arith, omega (arith, links-size (c .before .before .before .before .before .before .before .before .args .t1) _ (c .before .before .before .before .before .schedule-size .ensures)))
+put-links-requires c κs = (
+  omega arith,
+  omega (
+    arith,
+    links-size (c .before .before .before .before .before .before .before .before .args .t1) _
+        (c .before .before .before .before .before .schedule-size .ensures),
+  ),
+)
 
 slice-write-out : tie.Need-slice-write-out
-slice-write-out c = omega (arith, links-size (c .before .before .before .before .before .before .before .before .before .before .before .args .t1) _ (c .before .before .before .before .before .before .before .before .schedule-size .ensures), c .before .before .put-links .ensures .1)
+slice-write-out c = omega (
+  arith,
+  links-size (c .before .before .before .before .before .before .before .before .before .before .before .args .t1) _
+      (c .before .before .before .before .before .before .before .before .schedule-size .ensures),
+  c .before .before .put-links .ensures .1,
+)
 
 same-length : tie.Need-same-length
 same-length c = search needs
@@ -37,7 +49,8 @@ same-length c = search needs
 returns-3 : tie.Need-returns-3
 returns-3 c = let put = c .before .before .put-links .ensures in
     encoded-few _ _ _ (omega arith) _
-    (written-all _ _ _ (schedule-size _ _ (c .before .before .before .before .before .before .before .before .schedule-size .ensures)) _ (omega arith) (schedule-stored _ _ _ _ (put .0) (put .1)))
+    (written-all _ _ _ (schedule-size _ _ (c .before .before .before .before .before .before .before .before .schedule-size .ensures)) _ (omega arith)
+    (schedule-stored _ _ _ _ (put .0) (put .1)))
 
 pub encode-schedule-spec : {M : Type 1} → statement M
 encode-schedule-spec =

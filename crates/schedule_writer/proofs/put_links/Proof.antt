@@ -23,7 +23,8 @@ abbrev turn : tie.After-link-command Inv-loop μ-loop → tie.At-loop Inv-loop �
 turn c = c .before .before .before .before
 
 abbrev lent : tie.After-link-command Inv-loop μ-loop → Schedule
-lent c = ofLists (c .before .before .before .before .before .before .args .links) (c .before .before .before .before .before .before .args .offsets .now) (c .before .before .before .before .before .before .args .periods .now)
+lent c = ofLists (c .before .before .before .before .before .before .args .links) (c .before .before .before .before .before .before .args .offsets .now)
+    (c .before .before .before .before .before .before .args .periods .now)
 
 made-of : (c : tie.After-link-command Inv-loop μ-loop) → c .link-command .result ≡ linkBytes (lent c) (turn c .loop .i)
 made-of c = c .link-command .ensures ∙ link-made (lent c) _

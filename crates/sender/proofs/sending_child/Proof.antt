@@ -43,7 +43,8 @@ cast-result : tie.Need-cast-result Inv-loop μ-loop
 cast-result c = omega (arith, look-most _ _ _ _ (c .before .before .before .before .before .before .before .loop .inv))
 
 returns : tie.Need-returns Inv-loop μ-loop
-returns c = look-here _ _ _ _ (c .before .before .before .before .before .before .before .loop .inv) (search needs) (search needs) _ (c .before .sends-in .ensures) (c .if2 .taken)
+returns c = look-here _ _ _ _ (c .before .before .before .before .before .before .before .loop .inv) (search needs) (search needs) _ (c .before .sends-in .ensures)
+    (c .if2 .taken)
 
 sub-node : tie.Need-sub-node Inv-loop μ-loop
 sub-node c = search needs
@@ -65,4 +66,5 @@ returns-2 c = look-end _ _ _ _ (c .before .loop .inv) (search needs)
 pub sending-child-spec : {M : Type 1} → statement M
 sending-child-spec =
     tie.close
-    (tie.spec Inv-loop μ-loop link-count-requires loop-holds sub-i element-copy-out-if1 mul-sends-in element-copy-out-sends-in mul-sends-in-2 element-copy-out-sends-in-2 sends-in-requires cast-result returns sub-node loop-less loop-again returns-2)
+    (tie.spec Inv-loop μ-loop link-count-requires loop-holds sub-i element-copy-out-if1 mul-sends-in element-copy-out-sends-in mul-sends-in-2
+    element-copy-out-sends-in-2 sends-in-requires cast-result returns sub-node loop-less loop-again returns-2)

@@ -57,7 +57,8 @@ put-as s a b e = ap (λ (piece : List ℕ). put s piece) e
 
 -- No piece changes how long the space is.
 pub paste-all : (at : ℕ) (out piece : List ℕ) → at + length piece ≤ length out → length (take at out ++ piece ++ drop (at + length piece) out) ≡ length out
-paste-all at out piece room = sym (ap (λ (p : List ℕ). length (take at out ++ p ++ drop (at + length piece) out)) (take-length piece)) ∙ length-paste out at piece (length piece) room (omega arith)
+paste-all at out piece room = sym (ap (λ (p : List ℕ). length (take at out ++ p ++ drop (at + length piece) out)) (take-length piece)) ∙ length-paste out at piece
+    (length piece) room (omega arith)
 
 pub put-long : (s : ℕ × List ℕ) (piece : List ℕ) → length (put s piece .1) ≡ length (s .1)
 unfolding put

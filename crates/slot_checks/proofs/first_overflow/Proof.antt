@@ -63,7 +63,8 @@ add-if2 c = search needs
 
 returns : tie.Need-returns Inv-loop μ-loop
 returns c = sym (c .before .before .before .before .before .before .before .before .loop .inv .1 ∙ first-hit _ _ _ (omega arith)
-    (overflow-yes _ _ _ _ (c .before .before .before .before .before .if1 .taken) _ _ (c .before .before .before .sum .ensures .0) (c .before .wide .ensures .0) (omega (arith, c .if2 .taken))))
+    (overflow-yes _ _ _ _ (c .before .before .before .before .before .if1 .taken) _ _ (c .before .before .before .sum .ensures .0) (c .before .wide .ensures .0)
+    (omega (arith, c .if2 .taken))))
 
 add-n : tie.Need-add-n Inv-loop μ-loop
 add-n c = search needs

@@ -31,7 +31,8 @@ shared-slice-read-if2 : tie.Need-shared-slice-read-if2 Inv-loop μ-loop
 shared-slice-read-if2 c = search needs
 
 returns : tie.Need-returns Inv-loop μ-loop
-returns c = sym (c .before .before .before .before .before .loop .inv .1 ∙ first-hit _ _ _ (omega arith) (unexpected-yes _ _ _ (c .before .before .if1 .taken) (c .if2 .taken)))
+returns c = sym (c .before .before .before .before .before .loop .inv .1 ∙ first-hit _ _ _ (omega arith) (unexpected-yes _ _ _ (c .before .before .if1 .taken)
+    (c .if2 .taken)))
 
 add-n : tie.Need-add-n Inv-loop μ-loop
 add-n c = search needs

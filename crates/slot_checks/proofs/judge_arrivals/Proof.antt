@@ -20,10 +20,12 @@ returns-3 : tie.Need-returns-3
 returns-3 c = advance-counted _ _ _ (search needs) (search needs) _ (arrivals-over _ _ _ _ (c .before .before .first-overflow .ensures) (c .if3 .taken))
 
 returns-4 : tie.Need-returns-4
-returns-4 c = advance-counted _ _ _ (search needs) (search needs) _ (arrivals-stray _ _ _ _ (c .before .before .before .first-overflow .ensures) (c .before .if3 .left) _ (c .before .before .first-unexpected .ensures) (c .if4 .taken))
+returns-4 c = advance-counted _ _ _ (search needs) (search needs) _ (arrivals-stray _ _ _ _ (c .before .before .before .first-overflow .ensures)
+    (c .before .if3 .left) _ (c .before .before .first-unexpected .ensures) (c .if4 .taken))
 
 returns-5 : tie.Need-returns-5
-returns-5 c = advance-counted _ _ _ (search needs) (search needs) _ (arrivals-pass _ _ _ _ (c .before .before .before .first-overflow .ensures) (c .before .if3 .left) _ (c .before .before .first-unexpected .ensures) (c .if4 .left))
+returns-5 c = advance-counted _ _ _ (search needs) (search needs) _ (arrivals-pass _ _ _ _ (c .before .before .before .first-overflow .ensures)
+    (c .before .if3 .left) _ (c .before .before .first-unexpected .ensures) (c .if4 .left))
 
 pub judge-arrivals-spec : {M : Type 1} → statement M
 judge-arrivals-spec =
