@@ -39,8 +39,8 @@
  *   11  crowded: no base fits the children of a parent
  *   12  a link's capacity is below the sum of the widths of all flows that use it
  *   13  the periods on a flow's route sum to more than its deadline
- *   14  the plan bytes are refused; slotplan_read_plan tells by which check and where.  Or
- *       no file reads to the schedule that is handed in
+ *   14  the plan bytes are refused; slotplan_read_plan tells by which check and where.  Or no file
+ *       reads to the schedule that is handed in
  *   15  the flow number is live already
  *   16  the flow number is not live
  *   17  live flows leave less of a link's capacity than the new flow's width
