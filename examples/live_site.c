@@ -1,8 +1,8 @@
 /*
  * A host of a live site.  From the top of the repository:
  *
- *     rt staticlib embed
- *     gcc -std=c99 -I include examples/live_site.c target/staticlib/libembed.a -o live_site
+ *     rt staticlib slotplan_lib
+ *     gcc -std=c99 -I include examples/live_site.c target/staticlib/libslotplan_lib.a -o live_site
  *     ./live_site
  *
  * It prints the lines of live_site.out and ends with status 0, or with status 1 at the first answer
@@ -13,7 +13,7 @@
 #include <stdlib.h>
 #include <string.h>
 
-#include "slotplan.h"
+#include "slotplan_lib.h"
 
 /* Plan P of document 01: links 1 and 2 to the root, link 3 to node 1, and flow 0 from node 3. */
 static const uint8_t plan_p[] = {
@@ -71,9 +71,9 @@ static void swap_buffers(struct site *site, uint64_t length)
 
 static void open_site(struct site *site, const uint8_t *plan, size_t length)
 {
-    slotplan_answer answer = slotplan_mark(plan, length);
+    slotplan_answer answer = slotplan_read_plan(plan, length);
 
-    value_of(answer, "mark");
+    value_of(answer, "read_plan");
     printf("plan of %u links and %u flow\n", SLOTPLAN_LINKS(answer), SLOTPLAN_FLOWS(answer));
     memset(site, 0, sizeof *site);
     memcpy(site->buffers[0], plan, length);
@@ -193,18 +193,18 @@ static void release_5(struct site *site)
 }
 
 /* The slot rule needs no site: gaps in, offsets and periods out. */
-static void deal_five_children(void)
+static void assign_to_five_children(void)
 {
     const uint16_t gaps[5] = {4, 6, 6, 6, 6};
     uint16_t offsets[5], periods[5];
-    uint64_t base = value_of(slotplan_deal(gaps, 5, offsets, 5, periods, 5), "deal");
+    uint64_t base = value_of(slotplan_assign(gaps, 5, offsets, 5, periods, 5), "assign");
     size_t child;
 
     printf("gaps 4 6 6 6 6: base %" PRIu64 "\n", base);
     for (child = 0; child < 5; child++)
         printf("child %zu: offset %u, period %u\n", child, offsets[child],
                periods[child]);
-    expect(base == 3 && offsets[4] == 5 && periods[4] == 6, "deal");
+    expect(base == 3 && offsets[4] == 5 && periods[4] == 6, "assign");
 }
 
 int main(void)
@@ -221,6 +221,6 @@ int main(void)
     expect(site.counters[SLOTPLAN_CELL(5) + 8] == 56, "delivered packets of flow 5");
     ask(&site);
     release_5(&site);
-    deal_five_children();
+    assign_to_five_children();
     return EXIT_SUCCESS;
 }

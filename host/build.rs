@@ -5,7 +5,7 @@ use std::path::{Path, PathBuf};
 use std::process::Command;
 
 /// The crate of the library, which names the archive too.
-const LIBRARY: &str = "embed";
+const LIBRARY: &str = "slotplan_lib";
 
 const FOLDER: &str = "SLOTPLAN_LIBRARY";
 

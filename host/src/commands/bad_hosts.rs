@@ -3,7 +3,7 @@
 mod schedules;
 
 use crate::commands::compare::status_of;
-use crate::library::compiled::{self, Answer, NewFlow};
+use crate::library::slotplan_lib::{self, Answer, NewFlow};
 use crate::programs::output::hex;
 use crate::random::gaps::gap_list;
 use crate::random::generator::Random;
@@ -118,13 +118,13 @@ impl Host {
         )
     }
 
-    fn mark(&mut self) -> Judged {
-        let answer = compiled::mark(self.plan.list());
-        self.judge("mark", answer, |_| Parts::default())
+    fn read_plan(&mut self) -> Judged {
+        let answer = slotplan_lib::read_plan(self.plan.list());
+        self.judge("read_plan", answer, |_| Parts::default())
     }
 
     fn schedule(&mut self) -> Judged {
-        let answer = compiled::schedule(self.plan.list(), self.out.list());
+        let answer = slotplan_lib::schedule(self.plan.list(), self.out.list());
         self.judge("schedule", answer, |length| Parts {
             out: 0..length,
             ..Parts::default()
@@ -133,7 +133,7 @@ impl Host {
 
     fn admit(&mut self, flow: NewFlow) -> Judged {
         let (plan, counters) = (self.plan.list(), self.counters.list());
-        let answer = compiled::admit(plan, counters, flow, self.out.list());
+        let answer = slotplan_lib::admit(plan, counters, flow, self.out.list());
         self.judge("admit", answer, |length| Parts {
             out: 0..length,
             counters: cells_of(flow.number),
@@ -142,7 +142,7 @@ impl Host {
 
     fn release(&mut self, number: u8) -> Judged {
         let (plan, counters) = (self.plan.list(), self.counters.list());
-        let answer = compiled::release(plan, counters, number, self.out.list());
+        let answer = slotplan_lib::release(plan, counters, number, self.out.list());
         self.judge("release", answer, |length| Parts {
             out: 0..length,
             counters: cells_of(number),
@@ -150,13 +150,13 @@ impl Host {
     }
 
     fn start(&mut self) -> Judged {
-        let answer = compiled::start(self.plan.list(), self.counters.list());
+        let answer = slotplan_lib::start(self.plan.list(), self.counters.list());
         self.judge_counting("start", answer)
     }
 
     fn slot(&mut self, number: u32) -> Judged {
         let (plan, counters) = (self.plan.list(), self.counters.list());
-        let answer = compiled::slot(plan, counters, self.arrivals.list(), number);
+        let answer = slotplan_lib::slot(plan, counters, self.arrivals.list(), number);
         self.judge_counting("slot", answer)
     }
 
@@ -169,12 +169,12 @@ impl Host {
     }
 
     fn sender(&mut self, parent: u8, slot: u32) -> Judged {
-        let answer = compiled::sender(self.plan.list(), parent, slot);
+        let answer = slotplan_lib::sender(self.plan.list(), parent, slot);
         self.judge("sender", answer, |_| Parts::default())
     }
 
     fn bound(&mut self, number: u8) -> Judged {
-        let answer = compiled::bound(self.plan.list(), number);
+        let answer = slotplan_lib::bound(self.plan.list(), number);
         self.judge("bound", answer, |_| Parts::default())
     }
 }
@@ -195,15 +195,15 @@ impl Children {
         }
     }
 
-    fn deal(&mut self) -> Judged {
+    fn assign(&mut self) -> Judged {
         let (gaps, offsets, periods) = (&mut self.gaps, &mut self.offsets, &mut self.periods);
-        let answer = compiled::deal(gaps.list(), offsets.list(), periods.list());
+        let answer = slotplan_lib::assign(gaps.list(), offsets.list(), periods.list());
         let filled = 0..answer.map_or(0, |_| gaps.len());
         let holds = gaps.is_unchanged()
             && offsets.is_unchanged_but(&filled)
             && periods.is_unchanged_but(&filled);
         if !holds {
-            return Err(format!("deal {:?}: memory changed", gaps.as_lent));
+            return Err(format!("assign {:?}: memory changed", gaps.as_lent));
         }
         Ok(answer)
     }
@@ -295,7 +295,7 @@ impl BadHosts {
         self.accepted += u64::from(answer.is_ok());
     }
 
-    /// One string through the functions. Those that change the site refuse by 14 just what `mark` refuses.
+    /// One string through the functions. Those that change the site refuse by 14 just what `read_plan` refuses.
     fn try_string(&mut self, random: &mut Random) -> Result<(), String> {
         let bytes = self.random_bytes(random);
         let mut host = self.random_host(random, &bytes);
@@ -306,7 +306,7 @@ impl BadHosts {
             rate: random.pick(&[0, 1, 3, operand as u8]),
             deadline: random.pick(&[operand as u16, u16::MAX]),
         };
-        let marked = host.mark()?;
+        let plan_read = host.read_plan()?;
         let scheduled = host.schedule()?;
         let admitted = host.admit(flow)?;
         let passed = host.slot(operand)?;
@@ -314,17 +314,17 @@ impl BadHosts {
         let links = random.pick(&[0, 1, 63, 64, operand as u8]);
         let [read, written] =
             Scheduler::random(random, &bytes, self.margin).read_and_write(links)?;
-        for answer in [marked, scheduled, admitted, passed, other, read, written] {
+        for answer in [plan_read, scheduled, admitted, passed, other, read, written] {
             self.count(answer);
         }
         self.strings += 1;
         let counted = host.counters.len() == COUNTERS;
         let listed = counted && host.arrivals.len() == FLOW_NUMBERS;
-        let expected = expected_refusals(marked, [counted, listed]);
-        let agree = marked.is_ok() || [scheduled, admitted, passed] == expected;
+        let expected = expected_refusals(plan_read, [counted, listed]);
+        let agree = plan_read.is_ok() || [scheduled, admitted, passed] == expected;
         if !agree {
             let others = format!("{scheduled:?}, {admitted:?}, {passed:?}");
-            return Err(host.objection(&format!("mark {marked:?}, but then {others}")));
+            return Err(host.objection(&format!("read_plan {plan_read:?}, but then {others}")));
         }
         Ok(())
     }
@@ -342,7 +342,7 @@ impl BadHosts {
                 let gaps: Vec<u16> = gaps.map(|gap| gap as u16).collect();
                 let other = random.index(73);
                 let [offsets, periods] = [random.pick(&[count, count, other]), count];
-                Children::of(&gaps, offsets, periods, self.margin).deal()
+                Children::of(&gaps, offsets, periods, self.margin).assign()
             }
         }
     }
@@ -352,11 +352,11 @@ fn random_number(operand: u32) -> u8 {
     (operand % FLOW_NUMBERS as u32) as u8
 }
 
-/// Of `schedule`, `admit` and `slot`, where `mark` refuses the bytes: a list of a wrong length is
+/// Of `schedule`, `admit` and `slot`, where `read_plan` refuses the bytes: a list of a wrong length is
 /// judged before them.
-fn expected_refusals(marked: Answer, lengths: [bool; 2]) -> [Answer; 3] {
+fn expected_refusals(plan_read: Answer, lengths: [bool; 2]) -> [Answer; 3] {
     let [admitted, passed] = lengths.map(|right| refuse(if right { 14 } else { 1 }, 0));
-    [marked, admitted, passed]
+    [plan_read, admitted, passed]
 }
 
 fn run(bad_hosts: &mut BadHosts, count: u64, random: &mut Random) -> Result<(), String> {

@@ -6,8 +6,8 @@ mod sites;
 mod table;
 mod timing;
 
-use crate::library::compiled::ARCHIVE;
 use crate::library::functions::{Functions, LIBRARY, PLAIN};
+use crate::library::slotplan_lib::ARCHIVE;
 use rows::{Bench, Row, OF_LISTS, OF_SITES};
 use sites::Case;
 use std::fs;
@@ -43,19 +43,19 @@ fn cells(times: Times) -> [String; 3] {
 }
 
 /// The part of a slot that goes into reading and judging the plan bytes.
-fn share_of_check_14(mark: Times, slot: Times) -> [String; 3] {
+fn share_of_check_14(read_plan: Times, slot: Times) -> [String; 3] {
     let percent = |part: f64, whole: f64| format!("{:.0} %", 100.0 * part / whole);
-    let rattle = percent(mark.rattle, slot.rattle);
-    [rattle, percent(mark.rust, slot.rust), String::new()]
+    let rattle = percent(read_plan.rattle, slot.rattle);
+    [rattle, percent(read_plan.rust, slot.rust), String::new()]
 }
 
-/// The lines of a site, each with its name and three cells, and check 14's share below `mark`.
+/// The lines of a site, each with its name and three cells, and check 14's share below `read_plan`.
 fn site_lines(times: &[Times]) -> Vec<(&'static str, [String; 3])> {
     let of_row = |row: Row| {
         let index = OF_SITES.iter().position(|&(_, other)| other == row);
         times[index.expect("a row of the table")]
     };
-    let share = share_of_check_14(of_row(Row::Mark), of_row(Row::Slot));
+    let share = share_of_check_14(of_row(Row::ReadPlan), of_row(Row::Slot));
     let names = OF_SITES.iter().map(|&(name, _)| name);
     let mut lines: Vec<_> = names.zip(times.iter().copied().map(cells)).collect();
     lines.insert(1, ("check 14's share of a slot", share));

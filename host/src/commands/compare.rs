@@ -14,7 +14,7 @@ use crate::programs::running::{printed_text, run, Printed};
 use crate::programs::schedule_lines::readschedule;
 use crate::random::calls::call_lines;
 use crate::random::damage::random_plan;
-use crate::random::gaps::deals_line;
+use crate::random::gaps::slot_rule_line;
 use crate::random::generator::Random;
 use crate::random::runs::Runs;
 use crate::random::schedules::schedule_lines;
@@ -189,7 +189,7 @@ struct Comparison {
     readschedule: PathBuf,
     vectors: Feed,
     altered: Feed,
-    deals: Feed,
+    gap_lists: Feed,
     calls: Feed,
     schedules: Feed,
     rehearse: Rehearse,
@@ -205,7 +205,7 @@ impl Comparison {
             readschedule: folder.join(READ_SCHEDULE),
             vectors: feed(PLAN_LINES, "plans", PLANS),
             altered: feed(SITE_LINES, "altered sites", SITES),
-            deals: feed(GAP_LINES, "gap lists", GAP_LISTS),
+            gap_lists: feed(GAP_LINES, "gap lists", GAP_LISTS),
             calls: feed(CALL_LINES, "calls", CALLS),
             schedules: feed(SCHEDULE_LINES, "schedules", SCHEDULES),
             rehearse: Rehearse::new(folder),
@@ -217,7 +217,7 @@ impl Comparison {
         [
             &self.vectors,
             &self.altered,
-            &self.deals,
+            &self.gap_lists,
             &self.calls,
             &self.schedules,
         ]
@@ -244,7 +244,7 @@ impl Comparison {
             compare_one(&self.slotplan, &plan, slotplan(&plan))?;
             compare_picture(&self.chart, &plan)?;
             self.altered.add(altered_lines(random))?;
-            self.deals.add(deals_line(random))?;
+            self.gap_lists.add(slot_rule_line(random))?;
             self.calls.add(call_lines(random))?;
             self.compare_schedules(random)?;
             self.rehearse.compare(random)?;
@@ -252,7 +252,7 @@ impl Comparison {
         }
         self.vectors.run()?;
         self.altered.run()?;
-        self.deals.run()?;
+        self.gap_lists.run()?;
         self.calls.run()?;
         self.schedules.run()
     }

@@ -3,12 +3,12 @@
 use crate::commands::compare::status_of;
 use crate::commands::outcomes::{Tally, FUNCTIONS, FUNCTIONS_WITHOUT_LINKS};
 use crate::commands::shrink::shrink;
-use crate::library::compiled::Answer;
 use crate::library::functions::{LIBRARY, MODEL};
 use crate::library::host_calls::{shown_answer, Call, List, Memory, Pair, Step};
+use crate::library::slotplan_lib::Answer;
 use crate::programs::output::Answered;
 use crate::random::generator::Random;
-use crate::random::hosts::{dealt_list, marked_list, schedule_list, Host};
+use crate::random::hosts::{plan_list, schedule_list, slot_rule_list, Host};
 use crate::second::bytes::END;
 use std::fmt;
 
@@ -46,8 +46,8 @@ impl Comparison {
     fn run(&mut self, count: u64, random: &mut Random) -> Result<(), Difference> {
         while self.cases < count {
             match random.between(0, 13) {
-                0..=4 => self.compare_list(marked_list(random))?,
-                5..=8 => self.compare_list(dealt_list(random))?,
+                0..=4 => self.compare_list(plan_list(random))?,
+                5..=8 => self.compare_list(slot_rule_list(random))?,
                 9..=11 => self.compare_list(schedule_list(random))?,
                 _ => self.compare_host(random)?,
             }
@@ -121,7 +121,7 @@ fn is_without_links(plan: &[u8], step: &Step) -> bool {
     match &step.call {
         Call::ReadSchedule { file, .. } => *file == [END],
         Call::WriteSchedule { schedule, .. } => schedule.links == 0,
-        Call::Deal { .. } => false,
+        Call::Assign { .. } => false,
         _ => step.other_plan.as_deref().unwrap_or(plan) == [END],
     }
 }
@@ -145,11 +145,11 @@ mod without_links;
 #[cfg(test)]
 mod tests {
     use super::*;
-    use crate::library::compiled::NewFlow;
     use crate::library::functions::{Functions, PLAIN};
     use crate::library::model;
+    use crate::library::slotplan_lib::NewFlow;
     use crate::programs::output::hex;
-    use crate::second::bytes::{read_dealt, read_plan, COMMAND_LENGTH};
+    use crate::second::bytes::{read_assigned, read_plan, COMMAND_LENGTH};
     use crate::second::calls::{check_deadline, check_room, CELLS, COUNTERS};
     use crate::second::former::{by_wanted_gaps, read_formerly};
     use crate::second::rules::{refuse, Refusal, Site};
@@ -267,13 +267,13 @@ mod tests {
 
     /// 12 by wanted gaps.
     fn former_12(plan: &[u8]) -> Answer {
-        by_wanted_gaps(&read_dealt(plan)?).check_widths()?;
-        model::mark(plan)
+        by_wanted_gaps(&read_assigned(plan)?).check_widths()?;
+        model::read_plan(plan)
     }
 
     /// 13 by wanted gaps.
     fn former_13(plan: &[u8]) -> Answer {
-        let answer = model::mark(plan)?;
+        let answer = model::read_plan(plan)?;
         by_wanted_gaps(&read_plan(plan)?).check_deadlines()?;
         Ok(answer)
     }
@@ -281,9 +281,9 @@ mod tests {
     /// A period is below its wanted gap only where the parent has another child, so that a plan keeps more than two commands.
     #[test]
     fn a_plan_judged_by_wanted_gaps_is_found() {
-        for (mark, number) in [(former_12 as fn(&[u8]) -> Answer, 12), (former_13, 13)] {
-            let judged = Functions { mark, ..MODEL };
-            let difference = difference(judged, "mark", 4);
+        for (read_plan, number) in [(former_12 as fn(&[u8]) -> Answer, 12), (former_13, 13)] {
+            let judged = Functions { read_plan, ..MODEL };
+            let difference = difference(judged, "read_plan", 4);
             shows(&difference, &format!("found refused {number} "));
             shows(&difference, "expected accepted");
         }
@@ -537,8 +537,8 @@ mod tests {
     }
 
     /// Offsets are filled though the parent is crowded.
-    fn careless_deal(gaps: &[u16], offsets: &mut [u16], periods: &mut [u16]) -> Answer {
-        let answer = model::deal(gaps, offsets, periods);
+    fn careless_assign(gaps: &[u16], offsets: &mut [u16], periods: &mut [u16]) -> Answer {
+        let answer = model::assign(gaps, offsets, periods);
         if answer == refuse(11, 0) {
             offsets[0] = 0;
         }
@@ -548,16 +548,16 @@ mod tests {
     #[test]
     fn a_list_that_a_refusal_changes_is_found() {
         let judged = Functions {
-            deal: careless_deal,
+            assign: careless_assign,
             ..MODEL
         };
-        let difference = difference(judged, "deal", 0);
+        let difference = difference(judged, "assign", 0);
         shows(&difference, "offsets[0]: found 0, expected ");
-        let Call::Deal { gaps, .. } = &difference.list.steps[0].call else {
+        let Call::Assign { gaps, .. } = &difference.list.steps[0].call else {
             panic!("{difference}");
         };
         assert!(gaps.len() <= 3, "{difference}");
         let gaps: String = gaps.iter().map(|gap| format!(" {gap:04X}")).collect();
-        shows(&difference, &format!("deal{gaps}, offsets "));
+        shows(&difference, &format!("assign{gaps}, offsets "));
     }
 }

@@ -1,8 +1,8 @@
 //! The stored outputs of the programs, compared with this implementation or written by it.
 
 use crate::programs::lines::first_difference;
-use crate::programs::names::{self, ASSEMBLE, REHEARSE};
-use crate::programs::output::{commands_in_hex, output};
+use crate::programs::names::{self, ASSEMBLE, PLAN_FILES, REHEARSE};
+use crate::programs::output::{commands_in_hex, output, slotplan};
 use crate::programs::rehearse_lines::rehearse;
 use crate::second::typed::assemble;
 use std::fs;
@@ -38,11 +38,12 @@ fn read(path: PathBuf) -> Result<Vec<u8>, String> {
 }
 
 fn computed(name: &str, folder: &Path) -> Result<Vec<u8>, String> {
-    let input = read(folder.join("stdin"))?;
+    let input = || read(folder.join("stdin"));
     match name {
-        ASSEMBLE => assemble(&input),
-        REHEARSE => rehearsed(folder, &input).map(String::into_bytes),
-        _ => output(name, &input).map(String::into_bytes),
+        ASSEMBLE => assemble(&input()?),
+        REHEARSE => rehearsed(folder, &input()?).map(String::into_bytes),
+        PLAN_FILES => plans_shown(folder).map(String::into_bytes),
+        _ => output(name, &input()?).map(String::into_bytes),
     }
 }
 
@@ -54,17 +55,25 @@ fn in_lines(name: &str, output: &[u8]) -> String {
     }
 }
 
-/// The words that rehearse is given stand in `args`, one to a line. The first is the path of a plan, and the plan of the
-/// same name is in the crate's folder `data`.
-fn rehearsed(folder: &Path, input: &[u8]) -> Result<String, String> {
-    let words = read(folder.join("args"))?;
-    let words = String::from_utf8_lossy(&words);
-    let name = words
+/// The plans that a program is given. Their names stand in the crate's file `args`, one to a line, and the plans in its folder `data`.
+fn plans(folder: &Path) -> Result<Vec<Vec<u8>>, String> {
+    let names = read(folder.join("args"))?;
+    let names = String::from_utf8_lossy(&names);
+    let plans = names
         .lines()
-        .next()
-        .and_then(|path| Path::new(path).file_name());
-    let plan = name.map(|name| read(folder.join("data").join(name)));
-    let (output, rehearsal) = rehearse(plan.transpose()?.as_deref(), input);
+        .map(|name| read(folder.join("data").join(name)));
+    plans.collect()
+}
+
+/// Of whole files, though the program reads the first 1,024 bytes of each: these settle what is printed.
+fn plans_shown(folder: &Path) -> Result<String, String> {
+    let plans = plans(folder)?;
+    Ok(plans.iter().map(|plan| slotplan(plan)).collect())
+}
+
+fn rehearsed(folder: &Path, input: &[u8]) -> Result<String, String> {
+    let plans = plans(folder)?;
+    let (output, rehearsal) = rehearse(plans.first().map(Vec::as_slice), input);
     let objections = rehearsal
         .iter()
         .flat_map(|rehearsal| &rehearsal.watch.objections);
@@ -96,6 +105,7 @@ mod tests {
     use super::*;
     use crate::programs::names::{CHART, LINE_PROGRAMS};
     use crate::repository::places::{top, Folder};
+    use crate::second::bytes::plan_p;
     use std::collections::BTreeSet;
 
     fn folder_of(name: &str) -> PathBuf {
@@ -136,14 +146,27 @@ mod tests {
         (output, line)
     }
 
+    /// The files of a crate and of its folder `data`, in another folder.
+    fn copy_of(name: &str) -> Folder {
+        let folder = Folder::new(&format!("stored_{name}"));
+        for part in ["", "data"] {
+            let (from, to) = (folder_of(name).join(part), folder.0.join(part));
+            let files = fs::read_dir(&from).into_iter().flatten();
+            fs::create_dir_all(&to).unwrap();
+            for file in files.map(|file| file.unwrap().path()) {
+                if file.is_file() {
+                    fs::copy(&file, to.join(file.file_name().unwrap())).unwrap();
+                }
+            }
+        }
+        folder
+    }
+
     #[test]
     fn one_other_figure_is_found() {
-        for name in LINE_PROGRAMS {
-            let folder = Folder::new(&format!("stored_{name}"));
-            let input = read(folder_of(name).join("stdin")).unwrap();
-            fs::write(folder.0.join("stdin"), input).unwrap();
-            let output = read(folder_of(name).join("stdout")).unwrap();
-            fs::write(folder.0.join("stdout"), &output).unwrap();
+        for name in LINE_PROGRAMS.into_iter().chain([PLAN_FILES]) {
+            let folder = copy_of(name);
+            let output = read(folder.0.join("stdout")).unwrap();
             assert!(check_one(name, &folder.0).is_ok(), "{name}");
             let (other, line) = with_another_figure(&output);
             fs::write(folder.0.join("stdout"), other).unwrap();
@@ -151,5 +174,24 @@ mod tests {
             let expected = format!("differs, line {line}:\nfound: ");
             assert!(told.starts_with(&expected), "{name}: {told}");
         }
+    }
+
+    /// In the order of the arguments, and a plan of more than 1,024 bytes.
+    #[test]
+    fn plans_are_shown_one_after_the_other() {
+        let folder = Folder::new("plans_shown");
+        fs::create_dir(folder.0.join("data")).unwrap();
+        let long = [&plan_p(9, 7)[..], &[0; 2000]].concat();
+        for (name, plan) in [("wired", &[0xFF][..]), ("long", &long)] {
+            fs::write(folder.0.join("data").join(name), plan).unwrap();
+        }
+        let shown = |names: &str| {
+            fs::write(folder.0.join("args"), names).unwrap();
+            computed(PLAN_FILES, &folder.0).map(|shown| String::from_utf8(shown).unwrap())
+        };
+        let [wired, refused] = ["accepted links 0 flows 0\n", "refused 10 25\n"];
+        assert_eq!(shown("wired\nlong\n"), Ok([wired, refused].concat()));
+        assert_eq!(shown("long\nwired\n"), Ok([refused, wired].concat()));
+        assert!(shown("wired\nmissing\n").unwrap_err().contains("missing"));
     }
 }

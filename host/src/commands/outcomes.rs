@@ -140,7 +140,7 @@ pub const RUNS_WITHOUT_LINKS: &[Call] = &[
 /// The functions of the library, with the checks that the header lists for each.
 pub const FUNCTIONS: &[Call] = &[
     call(
-        ["mark", "mark "],
+        ["read_plan", "read_plan "],
         ACCEPTED,
         &[2, 3, 4, 5, 6, 7, 8, 10, 11, 12, 13],
     ),
@@ -161,12 +161,12 @@ pub const FUNCTIONS: &[Call] = &[
     call(["slot", "slot "], ACCEPTED, &[1, 14, 19, 20]),
     call(["sender", "sender "], ACCEPTED, &[14, 6]),
     call(["bound", "bound "], ACCEPTED, &[14, 5, 16]),
-    call(["deal", "deal "], ACCEPTED, &[1, 5, 11]),
+    call(["assign", "assign "], ACCEPTED, &[1, 5, 11]),
 ];
 
 /// The functions on END alone as plan or schedule file, and of a schedule without links written.
 pub const FUNCTIONS_WITHOUT_LINKS: &[Call] = &[
-    call(["mark", "mark "], ACCEPTED, &[]),
+    call(["read_plan", "read_plan "], ACCEPTED, &[]),
     call(["schedule", "schedule "], ACCEPTED, &[1]),
     call(["read_schedule", "read_schedule "], ACCEPTED, &[1]),
     call(["write_schedule", "write_schedule "], ACCEPTED, &[1, 14]),

@@ -3,7 +3,7 @@
 mod schedules;
 
 use crate::library::host_calls::{Call, List};
-use crate::second::bytes::{read_dealt, COMMAND_LENGTH, END, FLOW, NODE};
+use crate::second::bytes::{read_assigned, COMMAND_LENGTH, END, FLOW, NODE};
 use crate::second::calls::CELLS;
 
 /// Without a node other links send in a slot. Of a small site one of these numbers shows what a large one shows.
@@ -156,7 +156,7 @@ impl Shrinking<'_> {
     /// A gap goes with its offset and its period. One that has to stay becomes 1 if it can.
     fn drop_gaps(&mut self) {
         for index in 0..self.list.steps.len() {
-            let Call::Deal { gaps, .. } = &self.list.steps[index].call else {
+            let Call::Assign { gaps, .. } = &self.list.steps[index].call else {
                 continue;
             };
             for child in (0..gaps.len()).rev() {
@@ -169,7 +169,7 @@ impl Shrinking<'_> {
 }
 
 fn drop_gap(call: &mut Call, child: usize) {
-    if let Call::Deal {
+    if let Call::Assign {
         gaps,
         offsets,
         periods,
@@ -182,7 +182,7 @@ fn drop_gap(call: &mut Call, child: usize) {
 }
 
 fn lower_gap(call: &mut Call, child: usize) {
-    if let Call::Deal { gaps, .. } = call {
+    if let Call::Assign { gaps, .. } = call {
         gaps[child] = gaps[child].min(1);
     }
 }
@@ -251,9 +251,9 @@ fn drop_flow(list: &mut List, of: Option<usize>, at: usize) {
     }
 }
 
-/// Each link of the route loses the flow's width, so that as much is left for others. None: there is no FLOW, or slots are not dealt.
+/// Each link of the route loses the flow's width, so that as much is left for others. None: there is no FLOW, or slots are not assigned.
 fn without_flow(plan: &mut Vec<u8>, at: usize) -> Option<()> {
-    let site = read_dealt(plan).ok()?;
+    let site = read_assigned(plan).ok()?;
     let &[FLOW, number, ..] = plan.get(at..at + COMMAND_LENGTH)? else {
         return None;
     };

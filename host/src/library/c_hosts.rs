@@ -1,6 +1,6 @@
 //! Tests of the library as a C compiler sees it: the header alone, and a host in C.
 
-use crate::library::compiled::{ARCHIVE, HEADER};
+use crate::library::slotplan_lib::{ARCHIVE, HEADER};
 use crate::programs::lines::first_difference;
 use crate::repository::places::{read_text, top, Folder};
 use std::fs;

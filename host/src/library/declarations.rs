@@ -1,6 +1,6 @@
-//! A test that the functions of the library's crate, the prototypes of the header and the declarations in `compiled.rs` agree.
+//! A test that the functions of the library's crate, the prototypes of the header and the declarations in `slotplan_lib.rs` agree.
 
-use crate::library::compiled::HEADER;
+use crate::library::slotplan_lib::HEADER;
 use crate::repository::places::{read_text, top};
 
 /// A function with the types of its parameters and of its answer, as Rust writes them.
@@ -143,7 +143,7 @@ fn declared_in(path: &str, read: fn(&str) -> Option<Vec<Declared>>) -> Vec<Decla
 #[test]
 fn the_crate_the_header_and_this_program_declare_the_same() {
     let header = declared_in(&format!("include/{HEADER}"), of_header);
-    let host = declared_in("host/src/library/compiled.rs", of_extern_block);
+    let host = declared_in("host/src/library/slotplan_lib.rs", of_extern_block);
     assert_eq!(header, host);
     assert_eq!(header.len(), 11);
     let of_crate = declared_in(

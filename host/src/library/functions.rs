@@ -1,13 +1,13 @@
 //! The eleven functions of the header by implementation, so that one can take the place of another. All are called through a
 //! pointer, so that none is built into the caller.
 
-use crate::library::compiled::{self, Answer, NewFlow};
 use crate::library::model;
+use crate::library::slotplan_lib::{self, Answer, NewFlow};
 use crate::plain;
 
 #[derive(Clone, Copy)]
 pub struct Functions {
-    pub mark: fn(&[u8]) -> Answer,
+    pub read_plan: fn(&[u8]) -> Answer,
     pub schedule: fn(&[u8], &mut [u8]) -> Answer,
     pub read_schedule: fn(&[u8], &mut [u16], &mut [u16]) -> Answer,
     pub write_schedule: fn(u8, &[u16], &[u16], &mut [u8]) -> Answer,
@@ -17,13 +17,13 @@ pub struct Functions {
     pub slot: fn(&[u8], &mut [u32], &[u16], u32) -> Answer,
     pub sender: fn(&[u8], u8, u32) -> Answer,
     pub bound: fn(&[u8], u8) -> Answer,
-    pub deal: fn(&[u16], &mut [u16], &mut [u16]) -> Answer,
+    pub assign: fn(&[u16], &mut [u16], &mut [u16]) -> Answer,
 }
 
 macro_rules! functions_of {
     ($implementation:ident) => {
         Functions {
-            mark: $implementation::mark,
+            read_plan: $implementation::read_plan,
             schedule: $implementation::schedule,
             read_schedule: $implementation::read_schedule,
             write_schedule: $implementation::write_schedule,
@@ -33,13 +33,13 @@ macro_rules! functions_of {
             slot: $implementation::slot,
             sender: $implementation::sender,
             bound: $implementation::bound,
-            deal: $implementation::deal,
+            assign: $implementation::assign,
         }
     };
 }
 
 /// The compiled library.
-pub const LIBRARY: Functions = functions_of!(compiled);
+pub const LIBRARY: Functions = functions_of!(slotplan_lib);
 
 /// The independent implementation.
 pub const MODEL: Functions = functions_of!(model);
@@ -171,8 +171,8 @@ mod tests {
     fn end_alone_is_a_plan_like_any_other() {
         let wired = [0xFF];
         for functions in ALL {
-            assert_eq!((functions.mark)(&wired), Ok(0));
-            assert_eq!((functions.mark)(&[0xFF, 0]), refuse(10, 1));
+            assert_eq!((functions.read_plan)(&wired), Ok(0));
+            assert_eq!((functions.read_plan)(&[0xFF, 0]), refuse(10, 1));
             assert_eq!((functions.sender)(&wired, 0, 0), Ok(0));
             assert_eq!((functions.sender)(&wired, 0, u32::MAX), Ok(0));
             assert_eq!((functions.sender)(&wired, 1, 0), refuse(6, 0));
@@ -274,11 +274,11 @@ mod tests {
     }
 
     #[test]
-    fn marks_bounds_and_senders_of_p() {
+    fn readings_bounds_and_senders_of_p() {
         let plan = plan_p(9, 7);
         for functions in ALL {
-            assert_eq!((functions.mark)(&plan), Ok(3 + 256));
-            assert_eq!((functions.mark)(&plan_p(9, 6)), refuse(13, 0));
+            assert_eq!((functions.read_plan)(&plan), Ok(3 + 256));
+            assert_eq!((functions.read_plan)(&plan_p(9, 6)), refuse(13, 0));
             assert_eq!((functions.bound)(&plan, 0), Ok(7));
             assert_eq!((functions.bound)(&plan, 63), refuse(16, 63));
             assert_eq!((functions.bound)(&plan, 64), refuse(5, 0));

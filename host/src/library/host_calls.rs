@@ -1,7 +1,7 @@
 //! Lists of calls of the library as a host makes them: each works on the memory that the ones before left behind.
 
-use crate::library::compiled::{Answer, NewFlow};
 use crate::library::functions::Functions;
+use crate::library::slotplan_lib::{Answer, NewFlow};
 use crate::programs::output::hex;
 use crate::second::calls::COUNTERS;
 use crate::second::rules::refused;
@@ -13,12 +13,12 @@ const MARGIN: usize = 16;
 /// The most counters, bytes to be filled, and offsets or periods that are lent. All are more than any call needs.
 pub const MOST_COUNTERS: usize = COUNTERS + 124;
 pub const MOST_ROOM: usize = 800;
-pub const MOST_DEALT: usize = 72;
+pub const MOST_ENTRIES: usize = 72;
 
 /// A call with its operands and with the lengths of the lists lent to it.
 #[derive(Clone, Debug, PartialEq, Eq)]
 pub enum Call {
-    Mark,
+    ReadPlan,
     Schedule {
         room: usize,
     },
@@ -56,7 +56,7 @@ pub enum Call {
     Bound {
         number: u8,
     },
-    Deal {
+    Assign {
         gaps: Vec<u16>,
         offsets: usize,
         periods: usize,
@@ -66,7 +66,7 @@ pub enum Call {
 impl Call {
     pub fn name(&self) -> &'static str {
         match self {
-            Call::Mark => "mark",
+            Call::ReadPlan => "read_plan",
             Call::Schedule { .. } => "schedule",
             Call::ReadSchedule { .. } => "read_schedule",
             Call::WriteSchedule { .. } => "write_schedule",
@@ -76,7 +76,7 @@ impl Call {
             Call::Slot { .. } => "slot",
             Call::Sender { .. } => "sender",
             Call::Bound { .. } => "bound",
-            Call::Deal { .. } => "deal",
+            Call::Assign { .. } => "assign",
         }
     }
 }
@@ -86,7 +86,7 @@ impl fmt::Display for Call {
     fn fmt(&self, form: &mut fmt::Formatter) -> fmt::Result {
         write!(form, "{}", self.name())?;
         match self {
-            Call::Mark => Ok(()),
+            Call::ReadPlan => Ok(()),
             Call::Schedule { room } => write!(form, " room {room}"),
             Call::ReadSchedule { file, lent } => {
                 let (file, [offsets, periods]) = (hex(file), lent);
@@ -113,7 +113,7 @@ impl fmt::Display for Call {
             }
             Call::Sender { parent, slot } => write!(form, " parent {parent:02X} slot {slot:08X}"),
             Call::Bound { number } => write!(form, " number {number:02X}"),
-            Call::Deal {
+            Call::Assign {
                 gaps,
                 offsets,
                 periods,
@@ -231,7 +231,7 @@ fn sentinels<T: From<u8>>(most: usize) -> Vec<T> {
 
 /// A list of a schedule that is handed in, with sentinels beside it.
 fn among_sentinels(list: &[u16]) -> Vec<u16> {
-    let mut cells = sentinels(MOST_DEALT);
+    let mut cells = sentinels(MOST_ENTRIES);
     cells[MARGIN..][..list.len()].copy_from_slice(list);
     cells
 }
@@ -242,8 +242,8 @@ impl Memory {
             plan: plan.to_vec(),
             counters: sentinels(MOST_COUNTERS),
             out: sentinels(MOST_ROOM),
-            offsets: sentinels(MOST_DEALT),
-            periods: sentinels(MOST_DEALT),
+            offsets: sentinels(MOST_ENTRIES),
+            periods: sentinels(MOST_ENTRIES),
         };
         memory.counters_mut().fill(0);
         memory
@@ -261,9 +261,9 @@ impl Memory {
     fn prepare(&mut self, step: &Step) {
         self.out = sentinels(MOST_ROOM);
         match &step.call {
-            Call::Deal { .. } | Call::ReadSchedule { .. } => {
-                self.offsets = sentinels(MOST_DEALT);
-                self.periods = sentinels(MOST_DEALT);
+            Call::Assign { .. } | Call::ReadSchedule { .. } => {
+                self.offsets = sentinels(MOST_ENTRIES);
+                self.periods = sentinels(MOST_ENTRIES);
             }
             Call::WriteSchedule { schedule, .. } => {
                 self.offsets = among_sentinels(&schedule.offsets);
@@ -304,16 +304,19 @@ impl Memory {
 
     fn call(&mut self, functions: &Functions, plan: &[u8], call: &Call) -> Answer {
         let (counters, out) = (&mut self.counters[MARGIN..], &mut self.out[MARGIN..]);
-        let (dealt, served) = (&mut self.offsets[MARGIN..], &mut self.periods[MARGIN..]);
+        let (offset_cells, period_cells) =
+            (&mut self.offsets[MARGIN..], &mut self.periods[MARGIN..]);
         match call {
-            Call::Mark => (functions.mark)(plan),
+            Call::ReadPlan => (functions.read_plan)(plan),
             Call::Schedule { room } => (functions.schedule)(plan, &mut out[..*room]),
-            Call::ReadSchedule { file, lent } => {
-                (functions.read_schedule)(file, &mut dealt[..lent[0]], &mut served[..lent[1]])
-            }
+            Call::ReadSchedule { file, lent } => (functions.read_schedule)(
+                file,
+                &mut offset_cells[..lent[0]],
+                &mut period_cells[..lent[1]],
+            ),
             Call::WriteSchedule { schedule, room } => {
-                let offsets = &dealt[..schedule.offsets.len()];
-                let periods = &served[..schedule.periods.len()];
+                let offsets = &offset_cells[..schedule.offsets.len()];
+                let periods = &period_cells[..schedule.periods.len()];
                 (functions.write_schedule)(schedule.links, offsets, periods, &mut out[..*room])
             }
             Call::Admit { lent, flow, room } => {
@@ -330,11 +333,15 @@ impl Memory {
             } => (functions.slot)(plan, &mut counters[..*lent], arrivals, *number),
             Call::Sender { parent, slot } => (functions.sender)(plan, *parent, *slot),
             Call::Bound { number } => (functions.bound)(plan, *number),
-            Call::Deal {
+            Call::Assign {
                 gaps,
                 offsets,
                 periods,
-            } => (functions.deal)(gaps, &mut dealt[..*offsets], &mut served[..*periods]),
+            } => (functions.assign)(
+                gaps,
+                &mut offset_cells[..*offsets],
+                &mut period_cells[..*periods],
+            ),
         }
     }
 

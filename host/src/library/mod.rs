@@ -3,9 +3,9 @@
 
 #[cfg(test)]
 mod c_hosts;
-pub mod compiled;
 #[cfg(test)]
 mod declarations;
 pub mod functions;
 pub mod host_calls;
 pub mod model;
+pub mod slotplan_lib;

@@ -1,20 +1,20 @@
 //! The eleven functions of the header, made of the second implementation. The order of the checks is the header's.
 
-use crate::library::compiled::{Answer, NewFlow};
-use crate::second::bytes::{self, read_plan, write_plan};
+use crate::library::slotplan_lib::{Answer, NewFlow};
+use crate::second::bytes::{self, write_plan};
 use crate::second::calls::{self, admission, COUNTERS};
 use crate::second::rules::{refuse, slot_rule, Flow, Refusal, Site, FLOW_NUMBERS, MOST_LINKS};
 use crate::second::schedules::{self, write_schedule_of, Schedule};
 use crate::second::slots;
 
 /// The links, and from bit 8 on the flows.
-pub fn mark(plan: &[u8]) -> Answer {
-    let site = read_plan(plan)?;
+pub fn read_plan(plan: &[u8]) -> Answer {
+    let site = bytes::read_plan(plan)?;
     Ok(site.links + 256 * site.live_flows().len() as u64)
 }
 
 pub fn schedule(plan: &[u8], out: &mut [u8]) -> Answer {
-    let site = read_plan(plan)?;
+    let site = bytes::read_plan(plan)?;
     bytes::write_schedule(&site, out).map(|length| length as u64)
 }
 
@@ -47,7 +47,7 @@ pub fn write_schedule(links: u8, offsets: &[u16], periods: &[u16], out: &mut [u8
 
 /// The site that is handed in is the one that the bytes read to, so 14 judges whether they are accepted, and nothing else.
 fn site_of(plan: &[u8]) -> Result<Site, Refusal> {
-    read_plan(plan).or_else(|_| refuse(14, 0))
+    bytes::read_plan(plan).or_else(|_| refuse(14, 0))
 }
 
 /// 01: 1 comes before 14, and here the site is read only then.
@@ -135,10 +135,10 @@ fn narrowed(list: &[u64], into: &mut [u16]) {
 }
 
 /// The base.
-pub fn deal(gaps: &[u16], offsets: &mut [u16], periods: &mut [u16]) -> Answer {
-    let [gaps, mut dealt, mut served] = [gaps, &*offsets, &*periods].map(widened);
-    let base = slot_rule(&gaps, &mut dealt, &mut served)?;
-    narrowed(&dealt, offsets);
-    narrowed(&served, periods);
+pub fn assign(gaps: &[u16], offsets: &mut [u16], periods: &mut [u16]) -> Answer {
+    let [gaps, mut wide_offsets, mut wide_periods] = [gaps, &*offsets, &*periods].map(widened);
+    let base = slot_rule(&gaps, &mut wide_offsets, &mut wide_periods)?;
+    narrowed(&wide_offsets, offsets);
+    narrowed(&wide_periods, periods);
     Ok(base)
 }

@@ -6,7 +6,7 @@ mod schedule;
 mod site;
 mod slot;
 
-use crate::library::compiled::{Answer, NewFlow};
+use crate::library::slotplan_lib::{Answer, NewFlow};
 use crate::second::bytes::{COMMAND_LENGTH, END, FLOW};
 use crate::second::calls::{CELLS, COUNTERS};
 use crate::second::rules::{refuse, Refusal, FLOW_NUMBERS, MOST_LINKS};
@@ -15,7 +15,7 @@ use site::FixedSite;
 use slot::Counters;
 
 /// The links, and from bit 8 on the flows.
-pub fn mark(plan: &[u8]) -> Answer {
+pub fn read_plan(plan: &[u8]) -> Answer {
     let site = FixedSite::read(plan)?;
     Ok((site.links + 256 * site.flow_count) as u64)
 }
@@ -206,7 +206,7 @@ pub fn bound(plan: &[u8], number: u8) -> Answer {
     Ok(u64::from(site.reaches[usize::from(flow.entry)]))
 }
 
-pub fn deal(gaps: &[u16], offsets: &mut [u16], periods: &mut [u16]) -> Answer {
+pub fn assign(gaps: &[u16], offsets: &mut [u16], periods: &mut [u16]) -> Answer {
     if offsets.len() != gaps.len() || periods.len() != gaps.len() {
         return refuse(1, 0);
     }
@@ -216,7 +216,7 @@ pub fn deal(gaps: &[u16], offsets: &mut [u16], periods: &mut [u16]) -> Answer {
     if let Some(index) = gaps.iter().position(|gap| !(1..=1024).contains(gap)) {
         return refuse(5, index);
     }
-    match rule::deal(gaps, offsets, periods) {
+    match rule::assign(gaps, offsets, periods) {
         Some(base) => Ok(u64::from(base)),
         None => refuse(11, 0),
     }

@@ -27,7 +27,7 @@ fn largest_base(gaps: &[u16]) -> Option<u16> {
         .find(|&base| fits(base, gaps))
 }
 
-/// What a child has been dealt.
+/// What a child has been assigned.
 #[derive(Clone, Copy, Default)]
 struct Turn {
     offset: u16,
@@ -49,7 +49,7 @@ fn free_offset(from: u16, earlier: &[Turn]) -> u16 {
 
 /// Fills both lists, which are as long as the gaps, and gives the base. None: crowded, and both lists are as they were.
 /// There are at most 63 gaps, each from 1 to 1,024.
-pub fn deal(gaps: &[u16], offsets: &mut [u16], periods: &mut [u16]) -> Option<u16> {
+pub fn assign(gaps: &[u16], offsets: &mut [u16], periods: &mut [u16]) -> Option<u16> {
     let base = largest_base(gaps)?;
     let mut order = [0; MOST_LINKS];
     let order = &mut order[..gaps.len()];

@@ -1,7 +1,7 @@
 //! The site of a plan in fixed arrays, read and judged in one pass over the bytes.
 
 use super::check_end;
-use super::rule::deal;
+use super::rule::assign;
 use crate::second::bytes::{COMMAND_LENGTH, END, FLOW, NODE};
 use crate::second::rules::{refuse, Refusal, FLOW_NUMBERS, MOST_DEPTH, MOST_LINKS};
 use std::ops::Range;
@@ -65,7 +65,7 @@ impl FixedSite {
     pub fn read(plan: &[u8]) -> Result<FixedSite, Refusal> {
         let mut site = FixedSite::EMPTY;
         site.read_commands(plan)?;
-        site.deal_all()?;
+        site.assign_all()?;
         site.check_widths()?;
         site.check_deadlines()?;
         Ok(site)
@@ -165,8 +165,8 @@ impl FixedSite {
         &self.children[usize::from(self.begins[parent])..usize::from(self.begins[parent + 1])]
     }
 
-    /// 11 over all parents rising. A parent's number is below its children's, so its own reach is known when they are dealt theirs.
-    fn deal_all(&mut self) -> Result<(), Refusal> {
+    /// 11 over all parents rising. A parent's number is below its children's, so its own reach is known when they are assigned theirs.
+    fn assign_all(&mut self) -> Result<(), Refusal> {
         self.list_children();
         let (mut gaps, mut offsets, mut periods) =
             ([0; MOST_LINKS], [0; MOST_LINKS], [0; MOST_LINKS]);
@@ -181,7 +181,7 @@ impl FixedSite {
                 *gap = self.gaps[usize::from(node)];
             }
             let gaps = &gaps[..count];
-            if deal(gaps, &mut offsets[..count], &mut periods[..count]).is_none() {
+            if assign(gaps, &mut offsets[..count], &mut periods[..count]).is_none() {
                 return refuse(11, parent);
             }
             let reach = self.reaches[parent];

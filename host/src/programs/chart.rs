@@ -104,8 +104,8 @@ fn lines_under(site: &Site, parent: usize) -> String {
 
 fn title(site: &Site, parent: usize, frame: u64, idle: impl Iterator<Item = u64>) -> String {
     let name = parent_name(parent);
-    let deal = site.deal_under(parent).expect("the site was accepted");
-    let (base, slots, idle) = (deal.base, counted(frame, "slot"), idle.count());
+    let assigned = site.assign_under(parent).expect("the site was accepted");
+    let (base, slots, idle) = (assigned.base, counted(frame, "slot"), idle.count());
     let cut = match frame {
         0..=MOST_SHOWN => String::new(),
         _ => format!(", first {MOST_SHOWN} of {frame} slots shown"),

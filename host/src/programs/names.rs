@@ -14,13 +14,13 @@ pub const ASSEMBLE: &str = "assemble";
 
 pub const READ_SCHEDULE: &str = "readschedule";
 
-/// The test programs that print for a plan what slotplan prints.
-pub const PLAN_PROGRAMS: [&str; 4] = ["test_figures", "test_bounds", "test_overlong", "test_wired"];
+/// The test program that prints what slotplan prints, for each plan file that it is given.
+pub const PLAN_FILES: &str = "test_plans";
 
 /// The test programs that read lines: plans, altered sites, gap lists, calls, schedules.
 pub const PLAN_LINES: &str = "test_vectors";
 pub const SITE_LINES: &str = "test_altered";
-pub const GAP_LINES: &str = "test_deals";
+pub const GAP_LINES: &str = "test_slot_rule";
 pub const CALL_LINES: &str = "test_calls";
 pub const SCHEDULE_LINES: &str = "test_schedules";
 
@@ -32,10 +32,16 @@ pub const LINE_PROGRAMS: [&str; 5] = [
     SCHEDULE_LINES,
 ];
 
-/// The programs with a stored input and output that this implementation computes. The stored output of chart is a picture, which is read
+/// The programs with a stored output that this implementation computes. The stored output of chart is a picture, which is read
 /// and judged instead.
 pub fn computed() -> Vec<&'static str> {
-    let product = [SLOTPLAN, READ_SCHEDULE, REHEARSE, LISTING, ASSEMBLE];
-    let all = product.iter().chain(&PLAN_PROGRAMS).chain(&LINE_PROGRAMS);
-    all.copied().collect()
+    let others = [
+        SLOTPLAN,
+        READ_SCHEDULE,
+        REHEARSE,
+        LISTING,
+        ASSEMBLE,
+        PLAN_FILES,
+    ];
+    others.into_iter().chain(LINE_PROGRAMS).collect()
 }

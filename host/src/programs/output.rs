@@ -2,8 +2,7 @@
 
 use crate::programs::call_lines::Desk;
 use crate::programs::names::{
-    CALL_LINES, GAP_LINES, LISTING, PLAN_LINES, PLAN_PROGRAMS, READ_SCHEDULE, SCHEDULE_LINES,
-    SITE_LINES, SLOTPLAN,
+    CALL_LINES, GAP_LINES, LISTING, PLAN_LINES, READ_SCHEDULE, SCHEDULE_LINES, SITE_LINES, SLOTPLAN,
 };
 use crate::programs::schedule_lines::{readschedule, schedules_line};
 use crate::second::bytes::{
@@ -25,7 +24,6 @@ pub fn output(program: &str, input: &[u8]) -> Result<String, String> {
         SLOTPLAN => Ok(slotplan(input)),
         READ_SCHEDULE => Ok(readschedule(input)),
         LISTING => Ok(listing(input)),
-        _ if PLAN_PROGRAMS.contains(&program) => Ok(slotplan(input)),
         _ => Ok(printed(&answered_lines(program, input)?)),
     }
 }
@@ -41,7 +39,7 @@ pub fn answered_lines(program: &str, input: &[u8]) -> Result<Vec<Answered>, Stri
     match program {
         PLAN_LINES => each_line(input, vectors_line),
         SITE_LINES => each_line(input, |line| altered_line(&mut site, line)),
-        GAP_LINES => each_line(input, deals_line),
+        GAP_LINES => each_line(input, slot_rule_line),
         CALL_LINES => each_line(input, |line| desk.line(line)),
         SCHEDULE_LINES => each_line(input, |line| schedules_line(&mut schedule, line)),
         _ => Err(format!("no program {program}")),
@@ -77,8 +75,8 @@ pub fn links_and_flows(site: &Site) -> String {
     let mut output = String::new();
     for node in site.nodes() {
         let parent = site.parents[node - 1];
-        let deal = site.deal_under(parent as usize);
-        let base = deal.expect("the site was accepted").base;
+        let assigned = site.assign_under(parent as usize);
+        let base = assigned.expect("the site was accepted").base;
         let (offset, period) = (site.offsets[node - 1], site.periods[node - 1]);
         output +=
             &format!("link {node} parent {parent} base {base} offset {offset} period {period}\n");
@@ -227,7 +225,7 @@ pub fn decimal(list: &[u64]) -> String {
     list.iter().map(|number| format!(" {number}")).collect()
 }
 
-fn deals_line(line: &str) -> Result<String, String> {
+fn slot_rule_line(line: &str) -> Result<String, String> {
     let numbers = numbers(line)?;
     let [offsets, periods, gaps @ ..] = numbers.as_slice() else {
         return Err("no two lengths".to_string());
@@ -258,7 +256,7 @@ mod tests {
     }
 
     #[test]
-    fn slotplan_prints_plan_p_as_marked() {
+    fn slotplan_prints_plan_p_as_01_tells() {
         let expected = "link 1 parent 0 base 4 offset 0 period 4\n\
             link 2 parent 0 base 4 offset 1 period 4\n\
             link 3 parent 1 base 3 offset 0 period 3\n\
@@ -270,9 +268,7 @@ mod tests {
 
     #[test]
     fn slotplan_prints_a_plan_without_links_in_one_line() {
-        let expected = "accepted links 0 flows 0\n";
-        assert_eq!(slotplan(&[0xFF]), expected);
-        assert_eq!(output(PLAN_PROGRAMS[3], &[0xFF]).unwrap(), expected);
+        assert_eq!(slotplan(&[0xFF]), "accepted links 0 flows 0\n");
         assert_eq!(slotplan(&[0xFF, 0x0A]), "refused 10 1\n");
     }
 
@@ -313,7 +309,7 @@ mod tests {
     }
 
     #[test]
-    fn deals_prints_both_lists() {
+    fn the_slot_rule_prints_both_lists() {
         let input = "2 2 6 3\n1 2 6 3\n2 2 1 1024\n0 0\n";
         let expected = "base 3 offsets 1 0 periods 6 3\n\
             refused 1 0 offsets 500 periods 700 701\n\

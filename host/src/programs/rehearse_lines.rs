@@ -161,7 +161,7 @@ mod tests {
     }
 
     #[test]
-    fn the_marked_slots_of_p_are_rehearsed() {
+    fn the_slots_of_p_in_01_are_rehearsed() {
         let slots: String = (0..17).map(|slot| format!("slot {slot} 0=3\n")).collect();
         let expected = "accepted\n".repeat(17) + "cells 3 6 0 0 0 0 0 0 42\n";
         assert_eq!(on_p(&format!("{slots}cells 0")), expected);

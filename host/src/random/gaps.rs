@@ -113,7 +113,7 @@ pub fn gap_list(random: &mut Random, count: usize) -> Vec<u64> {
 }
 
 /// A line for the test program of the slot rule.
-pub fn deals_line(random: &mut Random) -> String {
+pub fn slot_rule_line(random: &mut Random) -> String {
     let count = gap_count(random);
     let gaps = gap_list(random, count);
     let offsets = list_length(random, gaps.len());

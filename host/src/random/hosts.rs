@@ -1,9 +1,9 @@
 //! Random lists of calls of the library, near the border between accepted and refused.
 
-use crate::library::compiled::NewFlow;
 use crate::library::host_calls::{
-    Call, HandedSchedule, List, Memory, Step, MOST_COUNTERS, MOST_DEALT, MOST_ROOM,
+    Call, HandedSchedule, List, Memory, Step, MOST_COUNTERS, MOST_ENTRIES, MOST_ROOM,
 };
+use crate::library::slotplan_lib::NewFlow;
 use crate::programs::schedule_lines::change;
 use crate::random::calls::{self, arrivals_within_rates, random_call, random_counters};
 use crate::random::damage::{damage_bytes, random_plan};
@@ -22,11 +22,11 @@ const MOST_ARRIVALS: usize = 130;
 /// The numbers of gaps that the slot rule is given are 0 to this.
 const MOST_GAPS: usize = 70;
 
-/// A plan, often damaged, that is marked and whose schedule is written, into buffers of some lengths.
-pub fn marked_list(random: &mut Random) -> List {
+/// A plan, often damaged, that is read and whose schedule is written, into buffers of some lengths.
+pub fn plan_list(random: &mut Random) -> List {
     let plan = random_plan(random);
     let needed = read_plan(&plan).map_or(0, |site| schedule_length(&site));
-    let mut calls = vec![Call::Mark];
+    let mut calls = vec![Call::ReadPlan];
     for _ in 0..random.between(1, 2) {
         let room = random_room(random, needed);
         calls.push(Call::Schedule { room });
@@ -36,7 +36,7 @@ pub fn marked_list(random: &mut Random) -> List {
 }
 
 /// The slot rule alone, with no plan.
-pub fn dealt_list(random: &mut Random) -> List {
+pub fn slot_rule_list(random: &mut Random) -> List {
     let count = match random.between(0, 3) {
         0..=1 => random.index(9),
         _ => random.index(MOST_GAPS + 1),
@@ -45,10 +45,10 @@ pub fn dealt_list(random: &mut Random) -> List {
     let mut length = || match random.between(0, 19) {
         0 => count.saturating_sub(1),
         1 => count + 1,
-        2 => random.index(MOST_DEALT + 1),
+        2 => random.index(MOST_ENTRIES + 1),
         _ => count,
     };
-    let call = Call::Deal {
+    let call = Call::Assign {
         offsets: length(),
         periods: length(),
         gaps: gaps.into_iter().map(|gap| gap as u16).collect(),
@@ -101,7 +101,7 @@ fn list_length(random: &mut Random) -> usize {
     match random.between(0, 59) {
         0 => MOST_LINKS - 1,
         1 => MOST_LINKS + 1,
-        2 => random.index(MOST_DEALT + 1),
+        2 => random.index(MOST_ENTRIES + 1),
         _ => MOST_LINKS,
     }
 }
@@ -178,7 +178,7 @@ impl Host {
     fn random_call(&mut self, random: &mut Random) -> Call {
         match random.between(0, 19) {
             0..=6 => self.next_slot(random),
-            7 => Call::Mark,
+            7 => Call::ReadPlan,
             8 => Call::Schedule {
                 room: random_room(random, schedule_length(&self.site)),
             },

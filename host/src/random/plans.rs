@@ -4,7 +4,8 @@ use crate::random::gaps::{doubtful_gaps, fitting_gaps, roomy_gaps};
 use crate::random::generator::Random;
 use crate::second::bytes::{flow_command, node_command};
 use crate::second::rules::{
-    children, deal, route, Flow, CAPACITIES, DEADLINES, FLOW_NUMBERS, MOST_DEPTH, MOST_LINKS, RATES,
+    assign, children, route, Flow, CAPACITIES, DEADLINES, FLOW_NUMBERS, MOST_DEPTH, MOST_LINKS,
+    RATES,
 };
 
 /// A plan before it is written as bytes. It may have more nodes or levels than 01 allows.
@@ -12,7 +13,7 @@ struct Draft {
     parents: Vec<u64>,
     capacities: Vec<u64>,
     gaps: Vec<u64>,
-    /// What the slot rule deals for the gaps; under a crowded parent the gaps themselves.
+    /// What the slot rule assigns for the gaps; under a crowded parent the gaps themselves.
     periods: Vec<u64>,
     flows: Vec<Flow>,
 }
@@ -129,7 +130,7 @@ impl Draft {
                 0..=6 => fitting_gaps(random, children.len()),
                 _ => roomy_gaps(random, children.len()),
             };
-            let periods = deal(&gaps).map_or(gaps.clone(), |deal| deal.periods);
+            let periods = assign(&gaps).map_or(gaps.clone(), |assigned| assigned.periods);
             for (index, node) in children.into_iter().enumerate() {
                 self.gaps[node - 1] = gaps[index];
                 self.periods[node - 1] = periods[index];
@@ -226,7 +227,7 @@ mod tests {
     use super::*;
     use crate::random::calls::{has_short_period, has_short_route};
     use crate::random::damage::undamaged_plan;
-    use crate::second::bytes::{read_dealt, read_plan};
+    use crate::second::bytes::{read_assigned, read_plan};
     use crate::second::former::by_wanted_gaps;
 
     /// Plans that 12 or 13 would refuse by wanted gaps, and such that they refuse for one packet or one slot at short periods.
@@ -236,7 +237,7 @@ mod tests {
         let [mut wide, mut late, mut over, mut short] = [0; 4];
         for _ in 0..4000 {
             let plan = undamaged_plan(&mut random);
-            let Ok(site) = read_dealt(&plan) else {
+            let Ok(site) = read_assigned(&plan) else {
                 continue;
             };
             let answer = read_plan(&plan).map_err(|refusal| (refusal.number, refusal.place));

@@ -177,9 +177,9 @@ fn a_failure_of_any_command_fails_without_the_verdict_as_last_line() {
 /// Without cargo or gcc nothing is tested.
 #[test]
 fn tests_are_run_only_after_rt_has_passed_and_where_gcc_is() {
-    let marked = "echo tested";
+    let tells = "echo tested";
     for (name, rt, gcc) in [("after", RT_FAILS, Some("")), ("without", RT_PASSES, None)] {
-        let output = Tree::new(name, [Some(rt), Some(marked), gcc]).run();
+        let output = Tree::new(name, [Some(rt), Some(tells), gcc]).run();
         assert!(!text(&output.stdout).contains("tested"), "{name}");
     }
 }

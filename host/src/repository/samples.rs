@@ -1,4 +1,4 @@
-//! Tests of the plans in `samples/`: each `NAME.plan` is what assemble makes of `NAME.txt`, and gets the mark that its comments tell.
+//! Tests of the plans in `samples/`: each `NAME.plan` is what assemble makes of `NAME.txt`, and gets the answer that its comments tell.
 
 use crate::programs::output::{commands_in_hex, slotplan};
 use crate::repository::places::{read, read_text, top};
@@ -84,7 +84,7 @@ fn each_lane_of_the_plaza_has_a_pay_and_a_plate_flow() {
     assert_eq!(site.bound(8), site.deadlines[8]);
 }
 
-/// The comment in the text tells the mark, and that lane 7 with a wanted gap of 8 makes the plan fit.
+/// The comment in the text tells the answer, and that lane 7 with a wanted gap of 8 makes the plan fit.
 #[test]
 fn relay_2_of_the_crowded_plaza_is_crowded() {
     assert_eq!(slotplan(&plan("crowded")), "refused 11 2\n");

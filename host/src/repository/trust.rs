@@ -1,6 +1,7 @@
 //! docs/TRUST.md tells how many lines of definitions a reader has to believe. They are counted anew here.
 
 use crate::repository::places::{read_text, top};
+use std::collections::{BTreeMap, BTreeSet};
 use std::fs;
 use std::path::Path;
 
@@ -25,7 +26,7 @@ fn lines_of_crate(top: &Path, name: &str) -> usize {
 }
 
 /// The rows `| `NAME` | LINES | .. |` of the table.
-fn rows(page: &str) -> Vec<(String, usize)> {
+fn rows(page: &str) -> BTreeMap<String, usize> {
     page.lines()
         .filter_map(|line| {
             let mut cells = line.split('|').map(str::trim).skip(1);
@@ -35,21 +36,29 @@ fn rows(page: &str) -> Vec<(String, usize)> {
         .collect()
 }
 
+/// The crates with such lines.
+fn counted(top: &Path) -> BTreeMap<String, usize> {
+    let listed = read_text(&top.join("crates.txt"));
+    let names = listed.lines().filter_map(|line| line.split_once(':'));
+    names
+        .map(|(name, _)| name)
+        .filter(|name| top.join("crates").join(name).join("specs").is_dir())
+        .map(|name| (name.to_string(), lines_of_crate(top, name)))
+        .filter(|&(_, lines)| lines > 0)
+        .collect()
+}
+
+/// A row of a crate that is not there is a difference too.
 #[test]
 fn the_lines_of_definitions_are_as_many_as_the_page_says() {
     let top = top();
-    let rows = rows(&read_text(&top.join("docs/TRUST.md")));
-    let listed = read_text(&top.join("crates.txt"));
-    let with_definitions = listed
-        .lines()
-        .filter_map(|line| line.split_once(':'))
-        .filter(|(name, _)| top.join("crates").join(name).join("specs").is_dir());
-    for (name, _) in with_definitions {
-        let lines = lines_of_crate(&top, name);
-        let told = rows.iter().find(|(row, _)| row == name).map(|row| row.1);
-        assert!(
-            lines == 0 || told == Some(lines),
-            "{name}: {lines} lines, told {told:?}"
-        );
-    }
+    let (told, counted) = (rows(&read_text(&top.join("docs/TRUST.md"))), counted(&top));
+    let names: BTreeSet<&String> = told.keys().chain(counted.keys()).collect();
+    let differences: Vec<String> = names
+        .into_iter()
+        .map(|name| (name, counted.get(name), told.get(name)))
+        .filter(|(_, counted, told)| counted != told)
+        .map(|(name, counted, told)| format!("{name}: counted {counted:?}, told {told:?}"))
+        .collect();
+    assert!(differences.is_empty(), "{}", differences.join("\n"));
 }

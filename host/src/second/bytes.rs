@@ -85,8 +85,8 @@ pub fn check_end(bytes: &[u8], at: usize) -> Result<(), Refusal> {
     Ok(())
 }
 
-/// The site with its slots dealt, before its flows are judged: all checks but 12 and 13.
-pub fn read_dealt(bytes: &[u8]) -> Result<Site, Refusal> {
+/// The site with its slots assigned, before its flows are judged: all checks but 12 and 13.
+pub fn read_assigned(bytes: &[u8]) -> Result<Site, Refusal> {
     let mut site = Site::empty();
     let mut at = 0;
     while bytes.get(at) != Some(&END) {
@@ -99,13 +99,13 @@ pub fn read_dealt(bytes: &[u8]) -> Result<Site, Refusal> {
         at += COMMAND_LENGTH;
     }
     check_end(bytes, at)?;
-    site.deal_all()?;
+    site.assign_all()?;
     Ok(site)
 }
 
 /// 01: after END 11, then 12, then 13.
 pub fn read_plan(bytes: &[u8]) -> Result<Site, Refusal> {
-    let site = read_dealt(bytes)?;
+    let site = read_assigned(bytes)?;
     site.check_widths()?;
     site.check_deadlines()?;
     Ok(site)
@@ -241,7 +241,7 @@ mod tests {
     }
 
     #[test]
-    fn plan_p_has_the_marked_schedule() {
+    fn plan_p_has_the_schedule_of_01() {
         let site = read_plan(&plan_p(9, 7)).unwrap();
         let mut slice = [0; 19];
         assert_eq!(write_schedule(&site, &mut slice), Ok(19));
@@ -253,7 +253,7 @@ mod tests {
     }
 
     #[test]
-    fn marked_plans_are_refused() {
+    fn plans_of_01_are_refused() {
         assert_eq!(refusal(&plan_p(9, 6)), (13, 0));
         assert_eq!(refusal(&plan_p(8, 7)), (12, 3));
         assert_eq!(refusal(&[]), (2, 0));

@@ -111,7 +111,7 @@ mod tests {
     }
 
     #[test]
-    fn marked_admissions_on_p() {
+    fn admissions_of_01_on_p() {
         assert_eq!(admission_on_p(flow(5, 2, 3, 6)), Ok(()));
         assert_eq!(admission_on_p(flow(5, 2, 4, 5)), Ok(()));
         assert_eq!(admission_on_p(flow(5, 2, 6, 6)), refuse(17, 2));

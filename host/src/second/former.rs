@@ -1,6 +1,6 @@
 //! The judgement of document 01 before U2 of 02, which went by wanted gaps.
 
-use crate::second::bytes::read_dealt;
+use crate::second::bytes::read_assigned;
 use crate::second::rules::{Refusal, Site};
 
 /// The site with its wanted gaps in the place of its periods: by it widths and the sums that 12, 13, 17 and 18 judge are the
@@ -14,7 +14,7 @@ pub fn by_wanted_gaps(site: &Site) -> Site {
 
 /// A plan judged by wanted gaps.
 pub fn read_formerly(plan: &[u8]) -> Result<Site, Refusal> {
-    let site = read_dealt(plan)?;
+    let site = read_assigned(plan)?;
     let formerly = by_wanted_gaps(&site);
     formerly.check_widths()?;
     formerly.check_deadlines()?;

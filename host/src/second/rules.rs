@@ -32,7 +32,7 @@ pub fn refused(refusal: Refusal) -> String {
 
 /// What the slot rule gives the children of one parent, in their order.
 #[derive(Clone, Debug, PartialEq, Eq)]
-pub struct Deal {
+pub struct Assigned {
     pub base: u64,
     pub offsets: Vec<u64>,
     pub periods: Vec<u64>,
@@ -84,7 +84,7 @@ fn smallest_free_offset(taken: &[bool], period: u64) -> u64 {
         .expect("where the base fits, each child in turn finds a free offset")
 }
 
-fn deal_offsets(periods: &[u64]) -> Vec<u64> {
+fn assign_offsets(periods: &[u64]) -> Vec<u64> {
     let mut order: Vec<usize> = (0..periods.len()).collect();
     order.sort_by_key(|&child| (periods[child], child));
     let mut taken = vec![false; hyperperiod(periods) as usize];
@@ -100,14 +100,14 @@ fn deal_offsets(periods: &[u64]) -> Vec<u64> {
 }
 
 /// 01, slot rules 1 and 4. None: no base fits, the parent is crowded.
-pub fn deal(gaps: &[u64]) -> Option<Deal> {
+pub fn assign(gaps: &[u64]) -> Option<Assigned> {
     let smallest = *gaps.iter().min()?;
     let base = (1..=smallest)
         .rev()
         .find(|&base| fits(&periods(base, gaps)))?;
     let periods = periods(base, gaps);
-    let offsets = deal_offsets(&periods);
-    Some(Deal {
+    let offsets = assign_offsets(&periods);
+    Some(Assigned {
         base,
         offsets,
         periods,
@@ -125,12 +125,12 @@ pub fn slot_rule(gaps: &[u64], offsets: &mut [u64], periods: &mut [u64]) -> Resu
     if let Some(index) = gaps.iter().position(|gap| !GAPS.contains(gap)) {
         return refuse(5, index);
     }
-    let Some(deal) = deal(gaps) else {
+    let Some(assigned) = assign(gaps) else {
         return refuse(11, 0);
     };
-    offsets.copy_from_slice(&deal.offsets);
-    periods.copy_from_slice(&deal.periods);
-    Ok(deal.base)
+    offsets.copy_from_slice(&assigned.offsets);
+    periods.copy_from_slice(&assigned.periods);
+    Ok(assigned.base)
 }
 
 /// The links from a node up to the root, where entry n - 1 of the list is node n's parent.
@@ -287,25 +287,25 @@ impl Site {
     }
 
     /// What the slot rule says under a parent with children.
-    pub fn deal_under(&self, parent: usize) -> Option<Deal> {
+    pub fn assign_under(&self, parent: usize) -> Option<Assigned> {
         let children = self.children(parent);
         let gaps: Vec<u64> = children.iter().map(|node| self.gaps[node - 1]).collect();
-        deal(&gaps)
+        assign(&gaps)
     }
 
     /// 11, over all parents rising.
-    pub fn deal_all(&mut self) -> Result<(), Refusal> {
+    pub fn assign_all(&mut self) -> Result<(), Refusal> {
         for parent in 0..=self.links as usize {
             let children = self.children(parent);
             if children.is_empty() {
                 continue;
             }
-            let Some(deal) = self.deal_under(parent) else {
+            let Some(assigned) = self.assign_under(parent) else {
                 return refuse(11, parent);
             };
             for (index, node) in children.into_iter().enumerate() {
-                self.offsets[node - 1] = deal.offsets[index];
-                self.periods[node - 1] = deal.periods[index];
+                self.offsets[node - 1] = assigned.offsets[index];
+                self.periods[node - 1] = assigned.periods[index];
             }
         }
         Ok(())
@@ -354,21 +354,21 @@ mod tests {
     use crate::random::gaps::{doubtful_gaps, fitting_gaps};
     use crate::random::generator::Random;
 
-    fn dealt(gaps: &[u64]) -> (u64, Vec<u64>) {
-        let deal = deal(gaps).unwrap();
-        (deal.base, deal.offsets)
+    fn base_and_offsets(gaps: &[u64]) -> (u64, Vec<u64>) {
+        let assigned = assign(gaps).unwrap();
+        (assigned.base, assigned.offsets)
     }
 
     #[test]
-    fn marked_gaps_are_dealt() {
-        assert_eq!(dealt(&[4, 6, 6, 6, 6]), (3, vec![0, 1, 2, 4, 5]));
-        assert_eq!(dealt(&[6, 3]).1, [1, 0]);
-        assert_eq!(dealt(&[2, 3]).1, [0, 1]);
-        assert_eq!(deal(&[1]).unwrap().periods, [1]);
+    fn gaps_of_01_are_assigned_slots() {
+        assert_eq!(base_and_offsets(&[4, 6, 6, 6, 6]), (3, vec![0, 1, 2, 4, 5]));
+        assert_eq!(base_and_offsets(&[6, 3]).1, [1, 0]);
+        assert_eq!(base_and_offsets(&[2, 3]).1, [0, 1]);
+        assert_eq!(assign(&[1]).unwrap().periods, [1]);
     }
 
     #[test]
-    fn marked_gaps_are_crowded() {
+    fn gaps_of_01_are_crowded() {
         let lists: [&[u64]; 3] = [&[2, 3, 1024], &[1, 1024], &[4, 4, 6, 6, 6]];
         for gaps in lists {
             let (mut offsets, mut periods) = (vec![7; gaps.len()], vec![8; gaps.len()]);
@@ -414,12 +414,12 @@ mod tests {
     fn in_no_slot_do_two_children_send() {
         let mut random = Random::from_seed(2);
         for count in 1..=MOST_LINKS {
-            let deal = deal(&fitting_gaps(&mut random, count)).unwrap();
+            let assigned = assign(&fitting_gaps(&mut random, count)).unwrap();
             for slot in 0..2048 {
                 let sending = (0..count)
-                    .filter(|&child| slot % deal.periods[child] == deal.offsets[child])
+                    .filter(|&child| slot % assigned.periods[child] == assigned.offsets[child])
                     .count();
-                assert!(sending <= 1, "{deal:?} in slot {slot}");
+                assert!(sending <= 1, "{assigned:?} in slot {slot}");
             }
         }
     }

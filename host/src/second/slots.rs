@@ -233,7 +233,7 @@ mod tests {
     }
 
     #[test]
-    fn marked_slots_of_p() {
+    fn slots_of_01_on_p() {
         let counters = p_after(0..17);
         assert_eq!(counters[..9], [3, 6, 0, 0, 0, 0, 0, 0, 42]);
         assert_eq!(counters[9..], [0; COUNTERS - 9]);

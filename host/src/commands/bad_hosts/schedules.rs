@@ -1,7 +1,7 @@
 //! Hosts that read and write schedules.
 
 use super::{Judged, Lent};
-use crate::library::compiled::{self, Answer};
+use crate::library::slotplan_lib::{self, Answer};
 use crate::programs::output::hex;
 use crate::random::generator::Random;
 use crate::second::rules::{refuse, MOST_LINKS};
@@ -40,7 +40,7 @@ impl Scheduler {
 
     pub fn read(&mut self) -> Judged {
         let (offsets, periods) = (self.offsets.list(), self.periods.list());
-        let answer = compiled::read_schedule(self.file.list(), offsets, periods);
+        let answer = slotplan_lib::read_schedule(self.file.list(), offsets, periods);
         let filled = 0..answer.map_or(0, |_| MOST_LINKS);
         let holds = self.offsets.is_unchanged_but(&filled)
             && self.periods.is_unchanged_but(&filled)
@@ -50,7 +50,7 @@ impl Scheduler {
 
     pub fn write(&mut self, links: u8) -> Judged {
         let (offsets, periods) = (self.offsets.list(), self.periods.list());
-        let answer = compiled::write_schedule(links, offsets, periods, self.out.list());
+        let answer = slotplan_lib::write_schedule(links, offsets, periods, self.out.list());
         let filled = 0..answer.map_or(0, |length| length as usize);
         let holds = self.offsets.is_unchanged()
             && self.periods.is_unchanged()
@@ -106,8 +106,8 @@ impl Scheduler {
 mod tests {
     use super::super::tests::{empty_lists, judged, MARGIN};
     use super::*;
-    use crate::library::compiled::{declared, told};
     use crate::library::model;
+    use crate::library::slotplan_lib::{declared, told};
     use crate::second::bytes::{link_command, END};
 
     /// Links 1, 2, 3 and so on with different entries.
@@ -201,12 +201,12 @@ mod tests {
     fn lists_that_are_only_read_may_overlap() {
         let entries: Vec<u16> = (0..=63).collect();
         let mut out = [0; 379];
-        let answer = compiled::write_schedule(63, &entries[..63], &entries[1..], &mut out);
+        let answer = slotplan_lib::write_schedule(63, &entries[..63], &entries[1..], &mut out);
         assert_eq!(answer, Ok(379));
         let mut expected = [0; 379];
         model::write_schedule(63, &entries[..63], &entries[1..], &mut expected).unwrap();
         assert_eq!(out, expected);
-        let equal = compiled::write_schedule(63, &entries[1..], &entries[1..], &mut out);
+        let equal = slotplan_lib::write_schedule(63, &entries[1..], &entries[1..], &mut out);
         assert_eq!(equal, refuse(14, 0));
     }
 
@@ -219,7 +219,7 @@ mod tests {
             let lent = [&mut offsets[shift..], &mut periods[15 - shift..]];
             let [first, second] = lent.map(|list| &mut list[..MOST_LINKS]);
             assert_eq!(
-                compiled::read_schedule(&shifted[shift..], first, second),
+                slotplan_lib::read_schedule(&shifted[shift..], first, second),
                 Ok(5)
             );
             assert_eq!(
@@ -227,7 +227,7 @@ mod tests {
                 lists(&file).each_ref().map(|list| &list[..])
             );
             let mut out = [9; 48];
-            let written = compiled::write_schedule(5, first, second, &mut out[shift..][..31]);
+            let written = slotplan_lib::write_schedule(5, first, second, &mut out[shift..][..31]);
             assert_eq!(written, Ok(31));
             assert_eq!(out[shift..][..31], file);
         }

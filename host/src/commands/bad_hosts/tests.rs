@@ -1,6 +1,6 @@
 use super::*;
-use crate::library::compiled::{declared, told};
 use crate::library::model;
+use crate::library::slotplan_lib::{declared, told};
 use crate::second::bytes::{flow_command, node_command, plan_p};
 use std::ptr::{null_mut, without_provenance_mut};
 use std::thread;
@@ -148,7 +148,7 @@ fn slot_rule_lists_of_every_length() {
                 } else {
                     Ok(66)
                 };
-                assert_eq!(judged(children.deal()), expected);
+                assert_eq!(judged(children.assign()), expected);
             }
         }
     }
@@ -169,7 +169,7 @@ fn an_empty_plan_may_be_anywhere() {
     for plan in empty_lists::<u8>() {
         let answers = unsafe {
             [
-                declared::slotplan_mark(plan, 0),
+                declared::slotplan_read_plan(plan, 0),
                 declared::slotplan_schedule(plan, 0, filled, 40),
                 declared::slotplan_admit(plan, 0, cells, 576, 5, 2, 3, 6, filled, 40),
                 declared::slotplan_release(plan, 0, cells, 576, 5, filled, 40),
@@ -219,11 +219,11 @@ fn empty_lists_of_the_slot_rule_may_be_anywhere() {
     for list in empty_lists::<u16>() {
         let answers = unsafe {
             [
-                declared::slotplan_deal(list, 0, list, 0, list, 0),
-                declared::slotplan_deal(list, 0, &mut filled, 1, list, 0),
-                declared::slotplan_deal(list, 0, list, 0, &mut filled, 1),
-                declared::slotplan_deal(&gap, 1, list, 0, &mut filled, 1),
-                declared::slotplan_deal(&gap, 1, &mut filled, 1, list, 0),
+                declared::slotplan_assign(list, 0, list, 0, list, 0),
+                declared::slotplan_assign(list, 0, &mut filled, 1, list, 0),
+                declared::slotplan_assign(list, 0, list, 0, &mut filled, 1),
+                declared::slotplan_assign(&gap, 1, list, 0, &mut filled, 1),
+                declared::slotplan_assign(&gap, 1, &mut filled, 1, list, 0),
             ]
         };
         let expected = [5, 1, 1, 1, 1].map(|number| refuse(number, 0));
@@ -263,7 +263,8 @@ fn two_hosts_may_lend_the_same_plan() {
         let mut counters = [0; COUNTERS];
         let mut arrivals = [0; 64];
         arrivals[0] = 3;
-        let slots = (0..=16).map(|number| compiled::slot(bytes, &mut counters, &arrivals, number));
+        let slots =
+            (0..=16).map(|number| slotplan_lib::slot(bytes, &mut counters, &arrivals, number));
         let answers: Vec<Answer> = slots.collect();
         (answers, counters[..9].to_vec())
     };
@@ -285,8 +286,8 @@ fn lists_may_begin_at_any_aligned_address() {
         let mut counters = [5; COUNTERS + 16];
         let arrivals: [u16; 80] = [0; 80];
         let (lent, cells) = (&plan[shift..], &mut counters[shift..][..COUNTERS]);
-        let scheduled = compiled::schedule(lent, &mut out[shift..][..19]);
-        let passed = compiled::slot(lent, cells, &arrivals[shift..][..64], 3);
+        let scheduled = slotplan_lib::schedule(lent, &mut out[shift..][..19]);
+        let passed = slotplan_lib::slot(lent, cells, &arrivals[shift..][..64], 3);
         assert_eq!((scheduled, passed), (Ok(19), Ok(0)));
         let mut expected = [9; 48];
         model::schedule(&plan[shift..], &mut expected[shift..]).unwrap();

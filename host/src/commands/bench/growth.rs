@@ -5,7 +5,7 @@ use super::sites::{largest_plan, plan_of, Case};
 use super::table::{shown_time, table};
 use super::timing::{measure, Times};
 use crate::second::bytes::{node_command, COMMAND_LENGTH, END};
-use crate::second::rules::{deal, FLOW_NUMBERS, MOST_LINKS};
+use crate::second::rules::{assign, FLOW_NUMBERS, MOST_LINKS};
 
 const LINKS: [usize; 7] = [1, 2, 4, 8, 16, 32, MOST_LINKS];
 const FLOWS: [usize; 8] = [0, 1, 2, 4, 8, 16, 32, FLOW_NUMBERS];
@@ -19,22 +19,22 @@ fn plan_of_links(links: usize, under_each: usize) -> Vec<u8> {
     plan_of(&nodes, &[])
 }
 
-/// How often the slot rule, dealing these gaps, asks whether an earlier child sends at an offset.
+/// How often the slot rule, assigning slots for these gaps, asks whether an earlier child sends at an offset.
 fn collision_tests(gaps: &[u64]) -> usize {
-    let Some(deal) = deal(gaps) else {
+    let Some(assigned) = assign(gaps) else {
         return 0;
     };
     let mut order: Vec<usize> = (0..gaps.len()).collect();
-    order.sort_by_key(|&child| (deal.periods[child], child));
+    order.sort_by_key(|&child| (assigned.periods[child], child));
     let (mut tests, mut from) = (0, 0);
     for (count, &child) in order.iter().enumerate() {
-        for offset in from..=deal.offsets[child] {
+        for offset in from..=assigned.offsets[child] {
             let mut earlier = order[..count].iter();
-            let taken =
-                earlier.position(|&other| offset % deal.periods[other] == deal.offsets[other]);
+            let taken = earlier
+                .position(|&other| offset % assigned.periods[other] == assigned.offsets[other]);
             tests += taken.map_or(count, |place| place + 1);
         }
-        from = deal.offsets[child] + 1;
+        from = assigned.offsets[child] + 1;
     }
     tests
 }
@@ -66,7 +66,7 @@ fn with_unit(times: Times, unit: Times) -> [String; 4] {
 
 fn against_links(under_each: usize) -> Result<String, String> {
     let cases = LINKS.map(|links| Case::of_plan(plan_of_links(links, under_each)));
-    let times = measure(&cases.each_ref().map(|case| (Row::Mark, case)))?;
+    let times = measure(&cases.each_ref().map(|case| (Row::ReadPlan, case)))?;
     let columns = ["links", "tests", "Rattle", "a link", "Rust", "a link"];
     let mut rows = vec![titles(columns)];
     for (links, times) in LINKS.into_iter().zip(times) {
@@ -134,12 +134,12 @@ pub fn report() -> Result<String, String> {
     let largest = Case::of_plan(largest_plan());
     let parts = [
         (
-            "`mark` against the links, at most 8 under each parent, gaps of 1,024, no flows. A test is a question of rule 5 of 01: \
+            "`read_plan` against the links, at most 8 under each parent, gaps of 1,024, no flows. A test is a question of rule 5 of 01: \
             does an earlier child of the parent send at this offset? Links of different parents are not compared.",
             against_links(8)?,
         ),
         (
-            "`mark` against the links, all under the root. Asked child by child, as the rule is written, \
+            "`read_plan` against the links, all under the root. Asked child by child, as the rule is written, \
             n children take at least n (n - 1) / 2 tests.",
             against_links(MOST_LINKS)?,
         ),
@@ -148,8 +148,8 @@ pub fn report() -> Result<String, String> {
             against_tests(&largest)?,
         ),
         (
-            "`mark` against the flows, on the links of the largest site.",
-            against_flows(Row::Mark)?,
+            "`read_plan` against the flows, on the links of the largest site.",
+            against_flows(Row::ReadPlan)?,
         ),
         (
             "`slot` against the flows, on the links of the largest site.",

@@ -1,15 +1,15 @@
 //! What is measured: the calls, each on buffers that are there before the clock starts.
 
 use super::sites::Case;
-use crate::library::compiled::Answer;
 use crate::library::functions::Functions;
+use crate::library::slotplan_lib::Answer;
 use crate::second::calls::COUNTERS;
 use crate::second::rules::MOST_LINKS;
 use std::hint::black_box;
 
 #[derive(Clone, Copy, Debug, PartialEq, Eq)]
 pub enum Row {
-    Mark,
+    ReadPlan,
     Schedule,
     ReadSchedule,
     WriteSchedule,
@@ -39,7 +39,7 @@ pub const REHEARSAL: Row = Row::Rehearsal(100_000);
 
 /// The rows that take a site.
 pub const OF_SITES: [(&str, Row); 11] = [
-    ("mark", Row::Mark),
+    ("read_plan", Row::ReadPlan),
     ("schedule", Row::Schedule),
     ("read_schedule", Row::ReadSchedule),
     ("write_schedule", Row::WriteSchedule),
@@ -127,7 +127,7 @@ impl Bench<'_> {
         let functions = self.functions;
         let last = self.case.last;
         match row {
-            Row::Mark => repeat(count, || (functions.mark)(plan())),
+            Row::ReadPlan => repeat(count, || (functions.read_plan)(plan())),
             Row::Schedule => repeat(count, || (functions.schedule)(plan(), out)),
             Row::ReadSchedule => self.reads(count),
             Row::WriteSchedule => self.writes(count),
@@ -145,9 +145,9 @@ impl Bench<'_> {
             Row::Rehearsal(slots) => self.slots(slots * count),
             Row::Sender => self.senders(count),
             Row::Bound => repeat(count, || (functions.bound)(plan(), black_box(last.number))),
-            Row::Wide(children) => self.deals(&[1024; MOST_LINKS][..children], count),
-            Row::Full => self.deals(&full_gaps(), count),
-            Row::Crowded => self.deals(&CROWDED_GAPS, count),
+            Row::Wide(children) => self.assign(&[1024; MOST_LINKS][..children], count),
+            Row::Full => self.assign(&full_gaps(), count),
+            Row::Crowded => self.assign(&CROWDED_GAPS, count),
         }
     }
 
@@ -197,13 +197,13 @@ impl Bench<'_> {
         })
     }
 
-    fn deals(&mut self, gaps: &[u16], count: u32) -> Answer {
-        let deal = self.functions.deal;
+    fn assign(&mut self, gaps: &[u16], count: u32) -> Answer {
+        let assign = self.functions.assign;
         let Buffers {
             offsets, periods, ..
         } = &mut *self.buffers;
         let (offsets, periods) = (&mut offsets[..gaps.len()], &mut periods[..gaps.len()]);
-        repeat(count, || deal(black_box(gaps), offsets, periods))
+        repeat(count, || assign(black_box(gaps), offsets, periods))
     }
 
     pub fn left_the_same(&self, other: &Bench) -> bool {

@@ -1,6 +1,6 @@
 //! The sites that are measured.
 
-use crate::library::compiled::NewFlow;
+use crate::library::slotplan_lib::NewFlow;
 use crate::second::bytes::{
     flow_command, node_command, plan_p, read_plan, write_schedule, written, COMMAND_LENGTH, END,
 };

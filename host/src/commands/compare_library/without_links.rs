@@ -1,9 +1,9 @@
 //! Mistakes about END alone and about a schedule without links, each of which the comparison has to find.
 
 use super::tests::{difference, shows};
-use crate::library::compiled::Answer;
 use crate::library::functions::{Functions, MODEL};
 use crate::library::model;
+use crate::library::slotplan_lib::Answer;
 use crate::second::bytes::END;
 use crate::second::rules::refuse;
 
@@ -16,15 +16,15 @@ fn tells(judged: Functions, call: &str, what: &str, input: &str) {
 /// Up to U2 of 02 number 9 came before 10, and in a writer before 1 for the slice.
 #[test]
 fn end_alone_refused_by_9_is_found() {
-    let mark = Functions {
-        mark: |plan| match plan {
+    let judged = Functions {
+        read_plan: |plan| match plan {
             [END, ..] => refuse(9, 0),
-            _ => model::mark(plan),
+            _ => model::read_plan(plan),
         },
         ..MODEL
     };
     let accepted = "found refused 9 0, expected accepted 0";
-    tells(mark, "mark", accepted, "plan FF\nmark");
+    tells(judged, "read_plan", accepted, "plan FF\nread_plan");
     let read = Functions {
         read_schedule: |file, offsets, periods| match file {
             [END, ..] if [offsets.len(), periods.len()] == [63; 2] => refuse(9, 0),
@@ -110,15 +110,15 @@ fn an_end_that_is_not_written_is_found() {
 
 #[test]
 fn bytes_behind_end_accepted_without_links_are_found() {
-    let mark = Functions {
-        mark: |plan| match plan {
+    let judged = Functions {
+        read_plan: |plan| match plan {
             [END, ..] => Ok(0),
-            _ => model::mark(plan),
+            _ => model::read_plan(plan),
         },
         ..MODEL
     };
     let accepted = "found accepted 0, expected refused 10 1";
-    let difference = difference(mark, "mark", 1);
+    let difference = difference(judged, "read_plan", 1);
     shows(&difference, accepted);
     shows(&difference, "plan FF ");
     assert_eq!(difference.list.plan.len(), 2, "{difference}");

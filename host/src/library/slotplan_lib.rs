@@ -8,11 +8,11 @@ pub const ARCHIVE: &str = env!("SLOTPLAN_ARCHIVE");
 
 /// The file in include/ that declares the functions for C.
 #[cfg(test)]
-pub const HEADER: &str = "slotplan.h";
+pub const HEADER: &str = "slotplan_lib.h";
 
 pub mod declared {
     extern "C" {
-        pub fn slotplan_mark(plan: *const u8, length: usize) -> u64;
+        pub fn slotplan_read_plan(plan: *const u8, length: usize) -> u64;
         pub fn slotplan_schedule(plan: *const u8, length: usize, out: *mut u8, room: usize) -> u64;
         pub fn slotplan_read_schedule(
             file: *const u8,
@@ -69,7 +69,7 @@ pub mod declared {
         ) -> u64;
         pub fn slotplan_sender(plan: *const u8, length: usize, parent: u8, slot: u32) -> u64;
         pub fn slotplan_bound(plan: *const u8, length: usize, number: u8) -> u64;
-        pub fn slotplan_deal(
+        pub fn slotplan_assign(
             gaps: *const u16,
             count: usize,
             offsets: *mut u16,
@@ -95,8 +95,8 @@ pub fn told(answer: u64) -> Answer {
 }
 
 /// The links, and from bit 8 on the flows.
-pub fn mark(plan: &[u8]) -> Answer {
-    told(unsafe { declared::slotplan_mark(plan.as_ptr(), plan.len()) })
+pub fn read_plan(plan: &[u8]) -> Answer {
+    told(unsafe { declared::slotplan_read_plan(plan.as_ptr(), plan.len()) })
 }
 
 pub fn schedule(plan: &[u8], out: &mut [u8]) -> Answer {
@@ -207,9 +207,9 @@ pub fn bound(plan: &[u8], number: u8) -> Answer {
 }
 
 /// The base.
-pub fn deal(gaps: &[u16], offsets: &mut [u16], periods: &mut [u16]) -> Answer {
+pub fn assign(gaps: &[u16], offsets: &mut [u16], periods: &mut [u16]) -> Answer {
     told(unsafe {
-        declared::slotplan_deal(
+        declared::slotplan_assign(
             gaps.as_ptr(),
             gaps.len(),
             offsets.as_mut_ptr(),

@@ -1,12 +1,13 @@
 /*
- * Slot plans of toll plazas for programs in C.  The functions are those of the crate `embed`;
- * `rt staticlib embed` proves them and writes target/staticlib/libembed.a for x86-64 Linux.
+ * Slot plans of toll plazas for programs in C.  The functions are those of the crate
+ * `slotplan_lib`; `rt staticlib slotplan_lib` proves them and writes
+ * target/staticlib/libslotplan_lib.a for x86-64 Linux.
  *
  * The state of a live site is its plan bytes and 576 counters.  The host keeps both; the library
  * keeps nothing between calls and reserves no memory.  Of the C library the archive asks for memcpy
  * and memset, and for nothing else.  A function that changes the site takes the bytes as they are
- * and writes the new ones into another buffer.  Bytes and sites turn into each other without
- * change, so a file with the bytes of the last change is the live site.
+ * and writes the new ones into another buffer.  Nothing of a site is lost in its bytes and nothing
+ * added, so a file with the bytes of the last change is the live site.
  *
  * What a host must guarantee, since nothing here can test it: each pointer is aligned for its type
  * and leads to as many elements as the length behind it says, all of them readable, and writable
@@ -19,7 +20,7 @@
  * A site may have no links: its plan is END alone, the one byte FF, and so is its schedule file.
  *
  * Units: counters and arrivals are packets, capacities and rates packets a slot; gaps, periods,
- * offsets, deadlines and bounds are slots.  On each link of its route a flow has a width, its rate
+ * offsets, deadlines and bounds are slots.  The width of a flow on a link of its route is its rate
  * times the link's period, in packets.
  *
  * Each function lists its checks in their order.  The first that fails refuses the call, with its
@@ -36,21 +37,22 @@
  *    8  a node deeper than 8
  *   10  bytes after END
  *   11  crowded: no base fits the children of a parent
- *   12  the widths on a link sum to more than its capacity
+ *   12  a link's capacity is below the sum of the widths of all flows that use it
  *   13  the periods on a flow's route sum to more than its deadline
- *   14  the plan bytes are refused; slotplan_mark tells by which check and where.  Or no file reads
- *       to the schedule that is handed in
+ *   14  the plan bytes are refused; slotplan_read_plan tells by which check and where.  Or no file
+ *       reads to the schedule that is handed in
  *   15  the flow number is live already
  *   16  the flow number is not live
- *   17  the flow's width does not fit beside the live ones
+ *   17  live flows leave less of a link's capacity than the new flow's width
  *   18  the periods on the route sum to more than the deadline of the new flow
- *   19  a flow's nine cells and its arrival sum to more than 4,294,967,295
+ *   19  more than 4,294,967,295 packets of a live flow, its nine cells and its arrival together
  *   20  arrivals for a flow number that is not live
- *   21  link numbers of a schedule file that are not 1, 2, 3 up to at most 63 in order
- *   22  a period outside 1 to 1,024 in a schedule file, or an offset that is not below it
+ *   21  in a schedule file, a LINK whose number does not follow on the one before (the first on 0),
+ *       or a 64th LINK
+ *   22  in a schedule file, a period that is 0 or above 1,024, or an offset not below its period
  */
-#ifndef SLOTPLAN_H
-#define SLOTPLAN_H
+#ifndef SLOTPLAN_LIB_H
+#define SLOTPLAN_LIB_H
 
 #include <stddef.h>
 #include <stdint.h>
@@ -75,23 +77,24 @@ typedef uint64_t slotplan_answer;
 #define SLOTPLAN_VALUE(answer) ((answer) & UINT64_C(0x00FFFFFFFFFFFFFF))
 #define SLOTPLAN_PLACE(answer) SLOTPLAN_VALUE(answer)
 
-/* The two parts of the value of slotplan_mark. */
+/* The two parts of the value of slotplan_read_plan. */
 #define SLOTPLAN_LINKS(answer) ((unsigned)((answer) & 0xFF))
 #define SLOTPLAN_FLOWS(answer) ((unsigned)((answer) >> 8 & 0xFF))
 
 /* The first of the nine cells of a flow number among the counters. */
 #define SLOTPLAN_CELL(number) ((size_t)(number) * SLOTPLAN_CELLS)
 
-/* Marks a plan.  Value: how many links it has, and how many flows (the two macros above).
+/* Reads a plan and judges it.  Value: how many links it has, and how many flows (the macros
+ * SLOTPLAN_LINKS and SLOTPLAN_FLOWS).
  * Checks: for each command 3, 2, 4, 7, 5, 6, 8; at END 10; then 11, 12, 13.
  * Places: offset of the command (of 10, of the first byte after END; of 2 without END, the number
  * of bytes); parent of 11; lowest link of 12; lowest flow number of 13. */
-slotplan_answer slotplan_mark(const uint8_t *plan, size_t plan_length);
+slotplan_answer slotplan_read_plan(const uint8_t *plan, size_t plan_length);
 
 /* Writes the schedule of a plan into the front of out: for each link 11 hexadecimal, its number,
  * and offset and period in slots with the low byte first; then FF.  Value: the number of bytes
  * written.  The rest of out keeps what it held.
- * Checks: those of slotplan_mark, with their places; 1 for out, place 0. */
+ * Checks: those of slotplan_read_plan, with their places; 1 for out, place 0. */
 slotplan_answer slotplan_schedule(const uint8_t *plan, size_t plan_length,
                                   uint8_t *out, size_t out_length);
 
@@ -108,11 +111,11 @@ slotplan_answer slotplan_read_schedule(const uint8_t *file, size_t file_length,
 
 /* Writes a schedule that is handed in, the number of its links and two lists as
  * slotplan_read_schedule fills them, into the front of out, in the form that slotplan_schedule
- * writes.  Value: the number of bytes written.  The rest of out keeps what it held.  A file that was
- * read is written again to equal bytes.
+ * writes.  Value: the number of bytes written.  The rest of out keeps what it held.  The schedule
+ * that an accepted file reads to gives the bytes of that file.
  * Checks: 1 for offsets or periods, 14, place 0; 1 for out, place 0.  What 14 refuses: more than 63
- * links; a link whose period is outside 1 to 1,024 or whose offset is not below it; an element past
- * the links that is not 0. */
+ * links; a link with a period that is 0 or above 1,024, or with an offset not below its period; an
+ * element past the links that is not 0. */
 slotplan_answer slotplan_write_schedule(uint8_t links,
                                         const uint16_t *offsets, size_t offsets_length,
                                         const uint16_t *periods, size_t periods_length,
@@ -121,8 +124,8 @@ slotplan_answer slotplan_write_schedule(uint8_t links,
 /* Takes a flow in: its number, its entry node, its rate in packets a slot, its deadline in slots.
  * The plan bytes with the flow go into the front of out, the nine cells of its number become 0.
  * Value: the number of bytes written.  The rest of out and the other cells keep what they held.
- * Checks: 1 for counters, 14, 5, 6, place 0; 15, place number; 17, place the first such link going
- * up; 18, place number; 1 for out, place 0. */
+ * Checks: 1 for counters, 14, 5, 6, place 0; 15, place number; 17, place the first such link on the
+ * way to the root; 18, place number; 1 for out, place 0. */
 slotplan_answer slotplan_admit(const uint8_t *plan, size_t plan_length,
                                uint32_t *counters, size_t counters_length,
                                uint8_t number, uint8_t entry, uint8_t rate, uint16_t deadline,
@@ -142,8 +145,8 @@ slotplan_answer slotplan_start(const uint8_t *plan, size_t plan_length,
                                uint32_t *counters, size_t counters_length);
 
 /* One slot: arrivals[n] packets come for flow number n, and each link that sends in the slot moves
- * the smaller of queue and width of every live flow.  Value: 0.  Cells past a flow's route and
- * those of numbers not live keep what they held.
+ * every live flow's queue on, or as much of it as the flow's width.  Value: 0.  Cells past a flow's
+ * route and those of numbers not live keep what they held.
  * Checks: 1 for counters or arrivals, 14, place 0; 19, then 20, place the lowest such number. */
 slotplan_answer slotplan_slot(const uint8_t *plan, size_t plan_length,
                               uint32_t *counters, size_t counters_length,
@@ -156,7 +159,7 @@ slotplan_answer slotplan_slot(const uint8_t *plan, size_t plan_length,
 slotplan_answer slotplan_sender(const uint8_t *plan, size_t plan_length,
                                 uint8_t parent, uint32_t slot);
 
-/* The bound G of a live flow: the sum of the periods on its route, in slots.
+/* The bound G of a live flow, in slots: the periods of all links of its route, added.
  * Checks: 14, 5, place 0; 16, place number. */
 slotplan_answer slotplan_bound(const uint8_t *plan, size_t plan_length, uint8_t number);
 
@@ -165,9 +168,9 @@ slotplan_answer slotplan_bound(const uint8_t *plan, size_t plan_length, uint8_t 
  * base.
  * Checks: 1 for offsets or periods, 5 for a bad number of gaps, place 0; 5, place the index of the
  * first bad gap; 11, place 0. */
-slotplan_answer slotplan_deal(const uint16_t *gaps, size_t gaps_length,
-                              uint16_t *offsets, size_t offsets_length,
-                              uint16_t *periods, size_t periods_length);
+slotplan_answer slotplan_assign(const uint16_t *gaps, size_t gaps_length,
+                                uint16_t *offsets, size_t offsets_length,
+                                uint16_t *periods, size_t periods_length);
 
 #ifdef __cplusplus
 }
