@@ -1,6 +1,5 @@
 -- What is proved of blocks, for any size and any kind of element: a block that is put in is the one taken out, the others stay as they are, and so does
 -- the length; blocks that are joined are the blocks of the list. And how a part that was lent on comes back.
-pub mod Clearing
 use Prim.Native.Nat.{ℕ, zero, suc, _+_, _-_, _*_, _≤_, _<_}
 use mathlib.Core.Path.{_≡_, refl, sym, _∙_, ap}
 use mathlib.Core.List.{List, _∷_, _++_, append-assoc}

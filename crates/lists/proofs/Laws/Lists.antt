@@ -1,8 +1,8 @@
 -- Loops over a list, for lists of any width: a list filled entry by entry, a sum, and the smallest and largest number.
 use Prim.Native.Nat.{ℕ, zero, suc, _+_, _*_, _≤_, _<_, min, max}
-use mathlib.Core.Path.{_≡_, refl, sym, _∙_}
+use mathlib.Core.Path.{_≡_, refl, sym, _∙_, ap}
 use mathlib.Core.List.{List, [], _∷_, map}
-use lib.ListN.{length, getD, set, drop, length-set, length-map, drop-of-length-le}
+use lib.ListN.{length, getD, set, drop, replicate, length-set, length-map, drop-of-length-le}
 use lib.Seq.{drop-cons, getD-set-same, getD-set-other, ext-getD}
 use borrow.Author.Count.{below-more}
 use native.Mathlib.Nat.{mul-suc}
@@ -40,6 +40,11 @@ module _ {A B : Type 0} (d : A) (e : B) (h : A → B) where
   pub filled-end : (xs : List A) (i : ℕ) (ys : List B) → Filled xs i ys → length xs ≤ i → ys ≡ map h xs
   filled-end xs i ys w l =
       ext-getD e ys (map h xs) (w .long ∙ sym (length-map xs h)) (λ k m. w .each k (omega (arith, w .long)) ∙ sym (getD-map xs k (omega (arith, w .long))))
+
+-- A list filled with one value.
+pub map-constant : {A B : Type 0} (y : B) (xs : List A) → map (λ x. y) xs ≡ replicate (length xs) y
+map-constant y [] = refl
+map-constant {B = B} y (x ∷ xs) = ap (λ (ys : List B). y ∷ ys) (map-constant y xs)
 
 -- A sum over a list, of which the first i entries are in; each adds at most `most`.
 pub record Summed (h : ℕ → ℕ) (most : ℕ) (xs : List ℕ) (i sum : ℕ) : Type 0 where
