@@ -34,13 +34,13 @@ use Rattle.witness.specs.Lists.{played, stateP, arrivalsP, acceptedFrom,
 use Rattle.witness.specs.Lists.{pacedSlots, pacedLog}
 
 -- What is played is a run.
-pub played-run : (σ₀ : State) (cs : List Call) (l : Log) (σ : State) → Run own σ₀ l σ → Run own σ₀ (played cs l σ .0) (played cs l σ .1)
+played-run : (σ₀ : State) (cs : List Call) (l : Log) (σ : State) → Run own σ₀ l σ → Run own σ₀ (played cs l σ .0) (played cs l σ .1)
 unfolding played
 played-run σ₀ [] l σ run = run
 played-run σ₀ (c ∷ cs) l σ run = played-run σ₀ cs _ _ (then c (called own c σ .0) (called own c σ .1) run (promised own c σ))
 
 -- What the definitions give, by computing. Where the lists begin, and G = 7.
-pub begins-p : Begins 0 stateP
+begins-p : Begins 0 stateP
 unfolding called played stateP moved arrived delivering passed step hopsAlong hopsOf cellsOf linkSends recounted overflows firstOverflow unexpected firstUnexpected
     arrivalsRuling slotRuling cellsAfter slotOf startRuling startOf checked settled block withBlock withCells zeros unfit firstUnfit callFault change flowRuling
     admitRuling admitOf numberRuling releaseRuling releaseOf last first any total largest least smallest exponent period sum limit fits base periodsOf sends earlier
@@ -50,7 +50,7 @@ unfolding called played stateP moved arrived delivering passed step hopsAlong ho
     flowOf illNode illFlow firstIllNode firstIllFlow formed same accepts stands passesOf
 begins-p = record { passes = refl; counted = refl; living = refl; empty = refl }
 
-pub bound-p : boundOf own readP 0 ≡ 7
+bound-p : boundOf own readP 0 ≡ 7
 unfolding stateP hopsAlong hopsOf routeOf route climb up ofLink span
 bound-p = refl
 

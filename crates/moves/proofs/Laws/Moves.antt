@@ -112,7 +112,7 @@ module _ (s : Site) (t : ℕ) (sending : List ℕ) (w : PeriodsIn s t sending) w
   passed-as rate (m ∷ ms) coming (q ∷ cs) =
       rw (moved-as rate m q) (ap (λ (r : List ℕ). (q - moved (own s rate m) t q + coming) ∷ r) (passed-as rate ms (moved (own s rate m) t q) cs))
 
-  pub step-as : (rate : ℕ) (nodes : List ℕ) (x : ℕ) (cs : List ℕ)
+  step-as : (rate : ℕ) (nodes : List ℕ) (x : ℕ) (cs : List ℕ)
       → step (hopsAlong (inSlot sending rate) nodes) 0 x cs ≡ step (hopsAlong (own s rate) nodes) t x cs
   unfolding step
   step-as rate nodes x cs = passed-as rate nodes 0 (arrived x cs)
@@ -247,7 +247,7 @@ module _ (s : Site) (t : ℕ) (cs₀ xs : List ℕ) (m : AllMovable s cs₀ xs) 
     behind = ap (λ (r : List ℕ). drop (9 * n) r) (w .done) ∙ drop-at (joined (cellsAfter own s cs₀ xs t) n 0) (drop (9 * n) cs₀) (9 * n) front
 
     -- What is lent on is flow n's cells of the start.
-    pub cells-lent : take (9 * n + 9 - 9 * n) (drop (9 * n) cs) ≡ cellsOf n cs₀
+    cells-lent : take (9 * n + 9 - 9 * n) (drop (9 * n) cs) ≡ cellsOf n cs₀
     unfolding cellsOf block
     cells-lent = block-lent 9 n cs ∙ rw behind
 

@@ -59,7 +59,10 @@ shared-slice-read-move-packets : tie.Need-shared-slice-read-move-packets Inv-loo
 shared-slice-read-move-packets c = search needs
 
 move-packets-requires : tie.Need-move-packets-requires Inv-loop μ-loop
-move-packets-requires c κs = stepping-ready _ _ _ _ (c .before .before .before .before .before .before .before .before .before .before .before .before .before .before .pre) _ _ (c .before .before .before .before .before .before .before .before .before .loop .inv) (search needs) (c .before .before .before .before .before .before .if1 .taken)
+move-packets-requires c κs =
+    let live = c .before .before .before .before .before .before in
+    let turn = live .before .before .before in
+    stepping-ready _ _ _ _ (turn .before .before .before .before .before .pre) _ _ (turn .loop .inv) (search needs) (live .if1 .taken)
 
 add-n : tie.Need-add-n Inv-loop μ-loop
 add-n c = search needs

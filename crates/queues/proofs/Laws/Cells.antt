@@ -29,7 +29,7 @@ final-rest q [] l = absurd (omega arith)
 final-rest q (c ∷ cs) l = refl
 
 module _ (n : ℕ) where
-  pub length-delivering : (cs : List ℕ) → length (delivering n cs) ≡ length cs
+  length-delivering : (cs : List ℕ) → length (delivering n cs) ≡ length cs
   unfolding delivering
   length-delivering [] = refl
   length-delivering (c ∷ []) = refl
@@ -48,7 +48,7 @@ module _ (n : ℕ) where
   final-delivering (c ∷ d ∷ []) l = refl
   final-delivering (c ∷ d ∷ e ∷ cs) l = final-delivering (d ∷ e ∷ cs) (omega arith)
 
-pub length-passed : (hs : List Hop) (t coming : ℕ) (cs : List ℕ) → length (passed hs t coming cs) ≡ length cs
+length-passed : (hs : List Hop) (t coming : ℕ) (cs : List ℕ) → length (passed hs t coming cs) ≡ length cs
 unfolding passed
 length-passed [] t coming cs = length-delivering coming cs
 length-passed (h ∷ hs) t coming [] = refl

@@ -45,14 +45,14 @@ module _ (xs p : List ℕ) (node : ℕ) where
     summing-end h = omega (arith, rw (route-end p n (rw e at h)) at (s .rest))
 
 module _ (periods : List ℕ) (rate : ℕ) where
-  pub carried-long : (ms loads : List ℕ) → length (carried periods rate ms loads) ≡ length loads
+  carried-long : (ms loads : List ℕ) → length (carried periods rate ms loads) ≡ length loads
   unfolding carried
   carried-long [] loads = refl
   carried-long (m ∷ ms) loads =
       carried-long ms (set loads (m - 1) (getD loads (m - 1) 0 + widthAt periods rate m)) ∙ length-set loads (m - 1) _
 
   -- The numbers of a route fall, so no link has the width added twice.
-  pub carried-at : (p : List ℕ) (i n : ℕ) (loads : List ℕ) → i < length loads
+  carried-at : (p : List ℕ) (i n : ℕ) (loads : List ℕ) → i < length loads
       → getD (carried periods rate (route p n) loads) i 0 ≡ getD loads i 0 + cond (has (i + 1) (route p n)) (widthAt periods rate (i + 1)) 0
   unfolding carried has
   carried-at p i =
@@ -131,7 +131,7 @@ module _ (s : Site) (m n : ℕ) where
   unfolding widthOn
   width-live e = rw e
 
-  pub width-none : live s n ≡ false → widthOn s m n ≡ 0
+  width-none : live s n ≡ false → widthOn s m n ≡ 0
   unfolding widthOn
   width-none e = rw e
 

@@ -19,7 +19,7 @@ use Rattle.schedule.specs.Words.{Wellgapped, Parent, Served, CrowdedAt}
 use Rattle.schedule.proofs.Laws.Schedule.{base-under}
 
 -- A parent that has children is not crowded just when the slot rule finds a base for them; one that has none is not crowded.
-pub crowded-base : (s : Site) → Wellgapped s → (p : ℕ) → 1 ≤ length (gapsUnder s p) → (crowded s p ≡ false) ↔ (1 ≤ base 2 (gapsUnder s p))
+crowded-base : (s : Site) → Wellgapped s → (p : ℕ) → 1 ≤ length (gapsUnder s p) → (crowded s p ≡ false) ↔ (1 ≤ base 2 (gapsUnder s p))
 unfolding crowded
 crowded-base s g p some =
     let n : length (gapsUnder s p) ≡ 0 → ⊥ = omega arith in

@@ -58,7 +58,7 @@ module _ (p : List ℕ) where
       go (inr l) = absurd (omega (arith, up-out n (omega arith) l))
 
   -- Steps beyond the node's number change nothing.
-  pub climb-fuel : (f g n : ℕ) → n ≤ f → n ≤ g → climb f p n ≡ climb g p n
+  climb-fuel : (f g n : ℕ) → n ≤ f → n ≤ g → climb f p n ≡ climb g p n
   unfolding climb
   climb-fuel zero zero n a b = refl
   climb-fuel zero (suc g) n a b = simp (le-ltb (up p n) n (omega arith))
@@ -180,7 +180,7 @@ route-leads p =
 
 -- A route is told by the parents of the numbers up to its node.
 module _ (p q : List ℕ) where
-  pub route-same : (n : ℕ) → ((m : ℕ) → m ≤ n → up p m ≡ up q m) → route p n ≡ route q n
+  route-same : (n : ℕ) → ((m : ℕ) → m ≤ n → up p m ≡ up q m) → route p n ≡ route q n
   route-same =
       way-up p (λ n. ((m : ℕ) → m ≤ n → up p m ≡ up q m) → route p n ≡ route q n)
       (λ n l h. route-end p n l ∙ sym (route-end q n (omega (arith, h n (omega arith)))))
