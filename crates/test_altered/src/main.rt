@@ -48,12 +48,13 @@ fn show_line(line: &[u8], site: Site) -> Site {
 
 fn show_lines(text: &[u8]) {
     let mut site = site::empty();
-    let mut at = 0;
-    while at < text.len() {
-        let end = testlib_text::line_end(text, at);
-        let next = show_line(&text[at..end], site);
+    let mut rest = text;
+    while 0 < rest.len() {
+        let line = testlib_text::first_line(rest);
+        let next = show_line(line, site);
         site = next;
-        at = end + 1;
+        let behind = testlib_text::behind_line(rest, line.len());
+        rest = behind;
     }
 }
 

@@ -231,12 +231,13 @@ fn show_lines(text: &[u8]) {
         site: site::empty(),
         counters: [0; 577],
     };
-    let mut at = 0;
-    while at < text.len() {
-        let end = testlib_text::line_end(text, at);
-        let next = show_line(&text[at..end], live);
+    let mut rest = text;
+    while 0 < rest.len() {
+        let line = testlib_text::first_line(rest);
+        let next = show_line(line, live);
         live = next;
-        at = end + 1;
+        let behind = testlib_text::behind_line(rest, line.len());
+        rest = behind;
     }
 }
 

@@ -133,12 +133,13 @@ fn show_line(line: &[u8], schedule: Schedule) -> Schedule {
 
 fn show_lines(text: &[u8]) {
     let mut schedule = schedule_check::without_links();
-    let mut at = 0;
-    while at < text.len() {
-        let end = testlib_text::line_end(text, at);
-        let next = show_line(&text[at..end], schedule);
+    let mut rest = text;
+    while 0 < rest.len() {
+        let line = testlib_text::first_line(rest);
+        let next = show_line(line, schedule);
         schedule = next;
-        at = end + 1;
+        let behind = testlib_text::behind_line(rest, line.len());
+        rest = behind;
     }
 }
 

@@ -75,11 +75,12 @@ fn show_line(line: &[u8]) {
 }
 
 fn show_lines(text: &[u8]) {
-    let mut at = 0;
-    while at < text.len() {
-        let end = testlib_text::line_end(text, at);
-        show_line(&text[at..end]);
-        at = end + 1;
+    let mut rest = text;
+    while 0 < rest.len() {
+        let line = testlib_text::first_line(rest);
+        show_line(line);
+        let behind = testlib_text::behind_line(rest, line.len());
+        rest = behind;
     }
 }
 

@@ -1,5 +1,5 @@
 -- Lines of text with decimal numbers.
-use Prim.Native.Nat.{ℕ, _-_}
+use Prim.Native.Nat.{ℕ, _+_, _-_}
 use mathlib.Core.Bool.{Bool, true, false, cond, not}
 use mathlib.Core.List.{List, [], _∷_}
 use lib.Dec.{ltb, eqb}
@@ -9,6 +9,10 @@ use Rattle.text.specs.Decimal.{isDigit, valueOf}
 use Rattle.testlib_text.specs.declared.Number.{Number}
 use Rattle.testlib_text.specs.declared.Change.{Change}
 
+-- What is left of a text behind a first line of n bytes and its newline.
+unfoldable pub behindLine : List ℕ → ℕ → List ℕ
+behindLine text n = drop (n + 1) text
+
 -- The first byte of a line is this byte.
 unfoldable pub beginsWith : List ℕ → ℕ → Bool
 beginsWith [] byte = false
@@ -17,10 +21,6 @@ beginsWith (c ∷ cs) byte = eqb c byte
 -- The index of the first byte from `start` on that has the test: the length where there is none, and `start` where that is not below the length.
 abbrev pub indexFrom : (ℕ → Bool) → List ℕ → ℕ → ℕ
 indexFrom p bytes start = firstIn (λ i. p (getD bytes i 0)) (length bytes) start
-
--- The index of the newline that ends the line from `start` on.
-unfoldable pub lineEnd : List ℕ → ℕ → ℕ
-lineEnd text start = indexFrom (λ c. eqb c 10) text start
 
 -- The first digit from `start` on, and the end of the digits that begin at `first`.
 unfoldable pub numberStart : List ℕ → ℕ → ℕ

@@ -6,22 +6,28 @@ ghost use lib.ListN.{take};
 ghost use Rattle.text.specs.Decimal.{isDigit, valueOf};
 ghost use Rattle.text.specs.Put.{puts};
 ghost use Rattle.slices.specs.Written.{writing};
-ghost use Rattle.testlib_text.specs.Lines.{beginsWith, lineEnd, numberStart, numberEnd, numberFrom, changeFrom};
+ghost use Rattle.line_words.specs.Parts.{before, is};
+ghost use Rattle.testlib_text.specs.Lines.{behindLine, beginsWith, numberStart, numberEnd, numberFrom, changeFrom};
 ghost use Rattle.testlib_text.specs.Hex.{hexValue, hexBytes, hexStored, filled};
 ghost use Rattle.testlib_text.specs.Printed.{writtenText, leftText, numberedBytes};
 
-// The index of the end of the line that begins at `start`.
-pub fn line_end(text: &[u8], start: usize) -> usize
-    ensures { λ r. ⌜ r ≡ lineEnd (now (text .entry)) start ⌝ }
+// The first line of the text, without the newline that ends it.
+pub fn first_line(text: &[u8]) -> &[u8]
+    ensures { λ r. ⌜ now r ≡ before (is 10) (now (text .entry)) ⌝ }
 {
-    let mut end = start;
-    while end < text.len() {
-        if text[end] == b'\n' {
-            return end;
-        }
-        end += 1;
+    let end = line_words::find(text, 0, b'\n');
+    &text[0..end]
+}
+
+// What is left of the text behind a first line of `size` bytes and its newline.
+pub fn behind_line(text: &[u8], size: usize) -> &[u8]
+    ensures { λ r. ⌜ now r ≡ behindLine (now (text .entry)) size ⌝ }
+{
+    if size < text.len() {
+        let next = size + 1;
+        return &text[next..];
     }
-    end
+    &text[0..0]
 }
 
 // Whether the line begins with this byte.
