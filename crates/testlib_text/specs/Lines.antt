@@ -22,12 +22,20 @@ beginsWith (c ∷ cs) byte = eqb c byte
 abbrev pub indexFrom : (ℕ → Bool) → List ℕ → ℕ → ℕ
 indexFrom p bytes start = firstIn (λ i. p (getD bytes i 0)) (length bytes) start
 
--- The first digit from `start` on, and the end of the digits that begin at `first`.
-unfoldable pub numberStart : List ℕ → ℕ → ℕ
-numberStart line start = indexFrom isDigit line start
+-- A byte is a digit, or else is none.
+abbrev pub digitIs : Bool → ℕ → Bool
+digitIs digit c = cond digit (isDigit c) (not (isDigit c))
 
-unfoldable pub numberEnd : List ℕ → ℕ → ℕ
-numberEnd line first = indexFrom (λ c. not (isDigit c)) line first
+-- The index of the first byte from `start` on that is a digit, or else of the first that is none.
+unfoldable pub scanned : List ℕ → ℕ → Bool → ℕ
+scanned line start digit = indexFrom (digitIs digit) line start
+
+-- The first digit from `start` on, and the end of the digits that begin at `first`.
+abbrev pub numberStart : List ℕ → ℕ → ℕ
+numberStart line start = scanned line start true
+
+abbrev pub numberEnd : List ℕ → ℕ → ℕ
+numberEnd line first = scanned line first false
 
 -- The number whose digits stand from index `first` on and before index `next`: what the first ten of them say.
 abbrev pub decimalAt : List ℕ → ℕ → ℕ → Number

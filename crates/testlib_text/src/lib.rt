@@ -7,7 +7,7 @@ ghost use Rattle.text.specs.Decimal.{isDigit, valueOf};
 ghost use Rattle.text.specs.Put.{puts};
 ghost use Rattle.slices.specs.Written.{writing};
 ghost use Rattle.line_words.specs.Parts.{before, is};
-ghost use Rattle.testlib_text.specs.Lines.{behindLine, beginsWith, numberStart, numberEnd, numberFrom, changeFrom};
+ghost use Rattle.testlib_text.specs.Lines.{behindLine, beginsWith, digitIs, scanned, numberFrom, changeFrom};
 ghost use Rattle.testlib_text.specs.Hex.{hexValue, hexBytes, hexStored, filled};
 ghost use Rattle.testlib_text.specs.Printed.{writtenText, leftText, numberedBytes};
 
@@ -67,7 +67,8 @@ fn byte_of(high: u8, low: u8) -> u8
     high * 16 + low
 }
 
-// Puts the byte after the first n if there is room; answers how many there are then.
+// Puts the byte after the first n if there is room; answers how many there are then. A line may give more bytes than there is room for: where `slices::put`
+// answers one more than there are, this answers n, so that the bytes that are there can be read.
 fn store(bytes: &mut [u8], n: usize, byte: u8) -> usize
     ensures { λ r. ⌜ (r, now (bytes .exit)) ≡ hexStored (n, now (bytes .entry)) byte ⌝ }
 {
@@ -109,27 +110,22 @@ fn is_digit(c: u8) -> bool
     c <= b'9'
 }
 
-// The index of the first decimal digit from `start` on.
-fn number_start(line: &[u8], start: usize) -> usize
-    ensures { λ r. ⌜ r ≡ numberStart (now (line .entry)) start ⌝ }
+fn sought(c: u8, digit: bool) -> bool
+    ensures { λ r. ⌜ r ≡ digitIs digit c ⌝ }
+{
+    if digit {
+        return is_digit(c);
+    }
+    !is_digit(c)
+}
+
+// The index of the first byte from `start` on that is a digit or, if `digit` is false, that is none.
+fn scan(line: &[u8], start: usize, digit: bool) -> usize
+    ensures { λ r. ⌜ r ≡ scanned (now (line .entry)) start digit ⌝ }
 {
     let mut at = start;
     while at < line.len() {
-        if is_digit(line[at]) {
-            return at;
-        }
-        at += 1;
-    }
-    at
-}
-
-// The index behind the decimal digits that begin at `first`.
-fn number_end(line: &[u8], first: usize) -> usize
-    ensures { λ r. ⌜ r ≡ numberEnd (now (line .entry)) first ⌝ }
-{
-    let mut at = first;
-    while at < line.len() {
-        if !is_digit(line[at]) {
+        if sought(line[at], digit) {
             return at;
         }
         at += 1;
@@ -174,9 +170,9 @@ pub struct Number {
 pub fn next_number(line: &[u8], start: usize) -> Number
     ensures { λ r. ⌜ r ≡ numberFrom (now (line .entry)) start ⌝ }
 {
-    let first = number_start(line, start);
+    let first = scan(line, start, true);
     if first < line.len() {
-        let next = number_end(line, first);
+        let next = scan(line, first, false);
         let value = value_of(&line[first..next]);
         return Number {
             found: true,

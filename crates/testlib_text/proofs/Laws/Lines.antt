@@ -15,7 +15,7 @@ use Rattle.lists.specs.Search.{first}
 use Rattle.lists.proofs.Laws.Search.{lt-or-le, first-miss, first-passes}
 use Rattle.text.specs.Decimal.{isDigit, valueFrom, valueOf}
 use Rattle.testlib_text.specs.declared.Number.{Number}
-use Rattle.testlib_text.specs.Lines.{behindLine, beginsWith, indexFrom, numberStart, numberEnd, decimalAt, numberFrom, numberAfter, changeOf, changeFrom}
+use Rattle.testlib_text.specs.Lines.{behindLine, beginsWith, indexFrom, scanned, numberStart, numberEnd, decimalAt, numberFrom, numberAfter, changeOf, changeFrom}
 
 -- The first byte of a line, where there is one.
 pub begins-none : (line : List ℕ) (byte : ℕ) → length line ≡ 0 → false ≡ beginsWith line byte
@@ -116,15 +116,15 @@ module _ (line : List ℕ) (start first : ℕ) (e : first ≡ numberStart line s
 -- The digits of a number that is found lie within the line, one at least.
 module _ (line : List ℕ) (first : ℕ) where
   pub end-from : first ≤ numberEnd line first
-  unfolding numberEnd
+  unfolding scanned
   end-from = index-from (λ c. not (isDigit c)) line first
 
   pub end-within : first ≤ length line → numberEnd line first ≤ length line
-  unfolding numberEnd
+  unfolding scanned
   end-within = index-within (λ c. not (isDigit c)) line first
 
   end-after : first < length line → isDigit (getD line first 0) ≡ true → first < numberEnd line first
-  unfolding numberEnd
+  unfolding scanned
   end-after l d =
       let e : numberEnd line first ≡ numberEnd line (first + 1) = first-miss (λ i. not (isDigit (getD line i 0))) (length line) first l (rw d) in
       let m : first + 1 ≤ numberEnd line (first + 1) = index-from (λ c. not (isDigit c)) line (first + 1) in
@@ -132,11 +132,11 @@ module _ (line : List ℕ) (first : ℕ) where
 
 module _ (line : List ℕ) (start : ℕ) where
   start-from : start ≤ numberStart line start
-  unfolding numberStart
+  unfolding scanned
   start-from = index-from isDigit line start
 
   start-digit : numberStart line start < length line → isDigit (getD line (numberStart line start) 0) ≡ true
-  unfolding numberStart
+  unfolding scanned
   start-digit l = first-passes (λ i. isDigit (getD line i 0)) (length line - start) start (omega arith)
 
   -- Behind the start, as long as something of the line is left.
