@@ -40,9 +40,8 @@ fn show_line(line: &[u8], site: Site) -> Site {
         return testlib_sites::read_site(line);
     }
     let mut out = [0u8; 512];
-    let told = put_line(&mut out, line, site);
-    let size = slices::put(&mut out, told, b"\n");
-    printing::print_front(&out, size);
+    let size = put_line(&mut out, line, site);
+    testlib_text::print_line(&mut out, size);
     site
 }
 

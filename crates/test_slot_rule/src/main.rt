@@ -103,9 +103,8 @@ fn put_line(out: &mut [u8], line: &[u8]) -> usize {
 // 1,024 bytes have room for every line: each of 132 entries takes six of them at most.
 fn show_line(line: &[u8]) {
     let mut out = [0u8; 1024];
-    let told = put_line(&mut out, line);
-    let size = slices::put(&mut out, told, b"\n");
-    printing::print_front(&out, size);
+    let size = put_line(&mut out, line);
+    testlib_text::print_line(&mut out, size);
 }
 
 fn show_lines(text: &[u8]) {

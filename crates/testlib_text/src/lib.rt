@@ -9,7 +9,7 @@ ghost use Rattle.slices.specs.Written.{writing};
 ghost use Rattle.line_words.specs.Parts.{before, is};
 ghost use Rattle.testlib_text.specs.Lines.{behindLine, beginsWith, digitIs, scanned, numberFrom, changeFrom};
 ghost use Rattle.testlib_text.specs.Hex.{hexValue, hexBytes, hexStored, filled};
-ghost use Rattle.testlib_text.specs.Printed.{writtenText, leftText, numberedBytes};
+ghost use Rattle.testlib_text.specs.Printed.{writtenText, leftText, numberedBytes, lineShown};
 
 // The first line of the text, without the newline that ends it.
 pub fn first_line(text: &[u8]) -> &[u8]
@@ -260,4 +260,12 @@ pub fn put_left(out: &mut [u8], at: usize, name: &[u8], written: Written, bytes:
     let told = put_written(out, at, name, written);
     let parted = slices::put(out, told, b":");
     hexadecimal::put_hex(out, parted, bytes)
+}
+
+// Prints the first `size` bytes as a line; answers how many bytes it handed over, none without room for the newline.
+pub fn print_line(out: &mut [u8], size: usize) -> usize
+    ensures { λ r. ⌜ (r, now (out .exit)) ≡ lineShown (size, now (out .entry)) ⌝ }
+{
+    let ended = slices::put(out, size, b"\n");
+    printing::print_front(out, ended)
 }

@@ -17,4 +17,5 @@ loop-less c = behind-shorter _ _ _ (c .behind-line .ensures) (c .before .before 
 pub show-lines-spec : {M : Type 1} → statement M
 show-lines-spec =
     tie.close
-    (tie.spec Inv-loop μ-loop (λ c κs. search needs) (λ c. tt) (λ c κs. search needs) (λ c κs. search needs) (λ c κs. search needs) loop-less (λ c. tt) (λ c. search needs))
+    (tie.spec Inv-loop μ-loop (λ c κs. search needs) (λ c. tt) (λ c κs. search needs) (λ c κs. search needs) (λ c κs. search needs) loop-less (λ c. tt)
+    (λ c. search needs))

@@ -15,6 +15,7 @@ use Rattle.lists.specs.Search.{first}
 use Rattle.lists.proofs.Laws.Search.{lt-or-le, first-miss, first-passes}
 use Rattle.text.specs.Decimal.{isDigit, valueFrom, valueOf}
 use Rattle.testlib_text.specs.declared.Number.{Number}
+use Rattle.testlib_text.specs.declared.Change.{Change}
 use Rattle.testlib_text.specs.Lines.{behindLine, beginsWith, indexFrom, scanned, numberStart, numberEnd, decimalAt, numberFrom, numberAfter, changeOf, changeFrom}
 
 -- The first byte of a line, where there is one.
@@ -175,6 +176,9 @@ module _ (line : List ℕ) (start : ℕ) where
   pub change-after : start < length line → start < changeFrom line start .next
   unfolding changeFrom
   change-after h = omega (arith, pair-after h, number-from line (two .next) (number-within line (one .next)))
+
+pub change-less : (line : List ℕ) (start : ℕ) (w : Change) → w ≡ changeFrom line start → start < length line → length line - w .next < length line - start
+change-less line start w e l = rw e (omega (arith, change-after line start l))
 
 -- The change of three numbers, each behind the one before.
 pub change-made : (line : List ℕ) (start : ℕ) (field index value : Number) → field ≡ numberFrom line start → index ≡ numberFrom line (field .next)
