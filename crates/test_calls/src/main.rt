@@ -13,7 +13,6 @@ struct Live {
     counters: [u32; 577],
 }
 
-// The low 32 bits of a number.
 fn low32(value: usize) -> u32 {
     (value % 4294967296) as u32
 }

@@ -14,7 +14,6 @@ fn put_again(out: &mut [u8], at: usize, bytes: &[u8], site: Site, space: &mut [u
     told
 }
 
-// The first n bytes.
 fn put_first(out: &mut [u8], at: usize, bytes: &[u8], n: usize) -> usize {
     if bytes.len() < n {
         return at;

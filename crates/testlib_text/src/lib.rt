@@ -30,7 +30,6 @@ pub fn behind_line(text: &[u8], size: usize) -> &[u8]
     &text[0..0]
 }
 
-// Whether the line begins with this byte.
 pub fn begins(line: &[u8], byte: u8) -> bool
     ensures { λ r. ⌜ r ≡ beginsWith (now (line .entry)) byte ⌝ }
 {
@@ -59,7 +58,6 @@ fn digit(c: u8) -> u8
     16
 }
 
-// The byte of two hexadecimal digits.
 fn byte_of(high: u8, low: u8) -> u8
     requires { ⌜ (high < 16) × (low < 16) ⌝ }
     ensures { λ r. ⌜ r ≡ high * 16 + low ⌝ }
@@ -212,7 +210,7 @@ pub fn next_change(line: &[u8], start: usize) -> Change
     }
 }
 
-// The low 8 and 16 bits of a number.
+// A line may give a number that is too large for what it is used for: the low bits are taken.
 pub fn low8(value: usize) -> u8
     ensures { λ r. ⌜ r ≡ value % 256 ⌝ }
 {

@@ -1,4 +1,4 @@
--- Right because what is left of the text falls: the newline goes at least.
+-- Right because each turn takes the first line and its newline away, so that less of the text is left.
 use borrow.Author.Needs.{needs}
 use lib.ListN.{length}
 use Rattle.testlib_text.proofs.Laws.Lines.{behind-shorter}

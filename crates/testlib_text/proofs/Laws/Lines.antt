@@ -29,7 +29,7 @@ unfolding beginsWith
 begins-some [] byte n = absurd (n refl)
 begins-some (c ∷ cs) byte n = refl
 
--- Behind a line the text goes on from the byte after the newline, or has nothing. Either way it is shorter: the newline is gone at least.
+-- Behind a line the text goes on from the byte after the newline, or has nothing. Either way less is left of it.
 module _ (text : List ℕ) (n : ℕ) where
   pub behind-some : take (length text - (n + 1)) (drop (n + 1) text) ≡ behindLine text n
   unfolding behindLine

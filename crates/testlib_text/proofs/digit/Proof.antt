@@ -28,8 +28,7 @@ returns-4 c = sym (rw (
   le-ltb _ _ (c .before .before .before .if1 .left),
   lt-leb _ _ (c .before .before .if2 .left),
   le-ltb _ _ (c .before .if3 .left),
-  le-leb _ _
-      (c .if4 .taken),
+  le-leb _ _ (c .if4 .taken),
 ) (omega arith))
 
 returns-5 : tie.Need-returns-5
@@ -38,8 +37,7 @@ returns-5 c = sym (rw (
   le-ltb _ _ (c .before .before .before .if1 .left),
   lt-leb _ _ (c .before .before .if2 .left),
   le-ltb _ _ (c .before .if3 .left),
-  lt-leb _ _
-      (c .if4 .left),
+  lt-leb _ _ (c .if4 .left),
 ))
 
 pub digit-spec : {M : Type 1} → statement M
