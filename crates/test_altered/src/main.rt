@@ -40,20 +40,20 @@ fn show_line(line: &[u8], site: Site) -> Site {
         return testlib_sites::read_site(line);
     }
     let mut out = [0u8; 512];
-    let told = put_line(&mut out, line, site);
-    let size = slices::put(&mut out, told, b"\n");
-    printing::print_front(&out, size);
+    let size = put_line(&mut out, line, site);
+    testlib_text::print_line(&mut out, size);
     site
 }
 
 fn show_lines(text: &[u8]) {
     let mut site = site::empty();
-    let mut at = 0;
-    while at < text.len() {
-        let end = testlib_text::line_end(text, at);
-        let next = show_line(&text[at..end], site);
+    let mut rest = text;
+    while 0 < rest.len() {
+        let line = testlib_text::first_line(rest);
+        let next = show_line(line, site);
         site = next;
-        at = end + 1;
+        let behind = testlib_text::behind_line(rest, line.len());
+        rest = behind;
     }
 }
 

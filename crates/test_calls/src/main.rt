@@ -13,7 +13,6 @@ struct Live {
     counters: [u32; 577],
 }
 
-// The low 32 bits of a number.
 fn low32(value: usize) -> u32 {
     (value % 4294967296) as u32
 }
@@ -52,11 +51,6 @@ fn given(line: &[u8]) -> [u32; 577] {
     different()
 }
 
-fn print_line(out: &mut [u8], size: usize) {
-    let ended = slices::put(out, size, b"\n");
-    printing::print_front(out, ended);
-}
-
 // Prints what a call answered and changed; answers the site and the counters that it left.
 fn called(out: &mut [u8], live: Live, judged: Judged, counters: [u32; 577]) -> Live {
     let verdict = judged.verdict;
@@ -65,7 +59,7 @@ fn called(out: &mut [u8], live: Live, judged: Judged, counters: [u32; 577]) -> L
     let told = report_lines::put_verdict(out, 0, verdict);
     let changed = testlib_changes::put_site(out, told, live.site, site);
     let size = testlib_changes::put_counters(out, changed, counters_before, counters);
-    print_line(out, size);
+    testlib_text::print_line(out, size);
     Live { site, counters }
 }
 
@@ -102,7 +96,7 @@ fn look_up(out: &mut [u8], line: &[u8], site: Site) {
     let slot = low32(numbers[1]);
     let lookup = sender::sender(site, parent, slot);
     let size = call_answers::put_lookup(out, 0, lookup);
-    print_line(out, size);
+    testlib_text::print_line(out, size);
 }
 
 fn with_site(live: Live, site: Site) -> Live {
@@ -131,7 +125,7 @@ fn run(out: &mut [u8], live: Live, verdict: Verdict, counters: [u32; 577]) -> Li
     let counters_before = live.counters;
     let told = report_lines::put_verdict(out, 0, verdict);
     let size = testlib_changes::put_counters(out, told, counters_before, counters);
-    print_line(out, size);
+    testlib_text::print_line(out, size);
     with_counters(live, counters)
 }
 
@@ -208,7 +202,7 @@ fn show_line(line: &[u8], live: Live) -> Live {
     match mark {
         b'#' => {
             let size = slices::put(&mut out, 0, line);
-            print_line(&mut out, size);
+            testlib_text::print_line(&mut out, size);
             live
         }
         b'P' => with_site(live, testlib_sites::read_site(line)),
@@ -231,12 +225,13 @@ fn show_lines(text: &[u8]) {
         site: site::empty(),
         counters: [0; 577],
     };
-    let mut at = 0;
-    while at < text.len() {
-        let end = testlib_text::line_end(text, at);
-        let next = show_line(&text[at..end], live);
+    let mut rest = text;
+    while 0 < rest.len() {
+        let line = testlib_text::first_line(rest);
+        let next = show_line(line, live);
         live = next;
-        at = end + 1;
+        let behind = testlib_text::behind_line(rest, line.len());
+        rest = behind;
     }
 }
 

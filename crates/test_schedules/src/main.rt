@@ -100,18 +100,13 @@ fn put_reading(out: &mut [u8], bytes: &[u8], read: Reading) -> usize {
     }
 }
 
-fn print_line(out: &mut [u8], size: usize) {
-    let ended = slices::put(out, size, b"\n");
-    printing::print_front(out, ended);
-}
-
 // Answers the schedule that the file of the line reads to.
 fn show_file(out: &mut [u8], line: &[u8]) -> Schedule {
     let mut bytes = [0u8; 2048];
     let n = testlib_text::parse_hex(line, &mut bytes);
     let read = schedule_reader::read_schedule(&bytes[0..n]);
     let size = put_reading(out, &bytes[0..n], read);
-    print_line(out, size);
+    testlib_text::print_line(out, size);
     read.schedule
 }
 
@@ -120,12 +115,12 @@ fn show_line(line: &[u8], schedule: Schedule) -> Schedule {
     let mut out = [0u8; 512];
     if testlib_text::begins(line, b'#') {
         let size = slices::put(&mut out, 0, line);
-        print_line(&mut out, size);
+        testlib_text::print_line(&mut out, size);
         return schedule;
     }
     if testlib_text::begins(line, b'W') {
         let size = put_writing(&mut out, line, schedule);
-        print_line(&mut out, size);
+        testlib_text::print_line(&mut out, size);
         return schedule;
     }
     show_file(&mut out, line)
@@ -133,12 +128,13 @@ fn show_line(line: &[u8], schedule: Schedule) -> Schedule {
 
 fn show_lines(text: &[u8]) {
     let mut schedule = schedule_check::without_links();
-    let mut at = 0;
-    while at < text.len() {
-        let end = testlib_text::line_end(text, at);
-        let next = show_line(&text[at..end], schedule);
+    let mut rest = text;
+    while 0 < rest.len() {
+        let line = testlib_text::first_line(rest);
+        let next = show_line(line, schedule);
         schedule = next;
-        at = end + 1;
+        let behind = testlib_text::behind_line(rest, line.len());
+        rest = behind;
     }
 }
 

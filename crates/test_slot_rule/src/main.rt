@@ -103,17 +103,17 @@ fn put_line(out: &mut [u8], line: &[u8]) -> usize {
 // 1,024 bytes have room for every line: each of 132 entries takes six of them at most.
 fn show_line(line: &[u8]) {
     let mut out = [0u8; 1024];
-    let told = put_line(&mut out, line);
-    let size = slices::put(&mut out, told, b"\n");
-    printing::print_front(&out, size);
+    let size = put_line(&mut out, line);
+    testlib_text::print_line(&mut out, size);
 }
 
 fn show_lines(text: &[u8]) {
-    let mut at = 0;
-    while at < text.len() {
-        let end = testlib_text::line_end(text, at);
-        show_line(&text[at..end]);
-        at = end + 1;
+    let mut rest = text;
+    while 0 < rest.len() {
+        let line = testlib_text::first_line(rest);
+        show_line(line);
+        let behind = testlib_text::behind_line(rest, line.len());
+        rest = behind;
     }
 }
 

@@ -14,7 +14,6 @@ fn put_again(out: &mut [u8], at: usize, bytes: &[u8], site: Site, space: &mut [u
     told
 }
 
-// The first n bytes.
 fn put_first(out: &mut [u8], at: usize, bytes: &[u8], n: usize) -> usize {
     if bytes.len() < n {
         return at;
@@ -69,17 +68,17 @@ fn put_line(out: &mut [u8], line: &[u8]) -> usize {
 // 2,048 bytes have room for every line: a byte of the schedule takes three of them.
 fn show_line(line: &[u8]) {
     let mut out = [0u8; 2048];
-    let told = put_line(&mut out, line);
-    let size = slices::put(&mut out, told, b"\n");
-    printing::print_front(&out, size);
+    let size = put_line(&mut out, line);
+    testlib_text::print_line(&mut out, size);
 }
 
 fn show_lines(text: &[u8]) {
-    let mut at = 0;
-    while at < text.len() {
-        let end = testlib_text::line_end(text, at);
-        show_line(&text[at..end]);
-        at = end + 1;
+    let mut rest = text;
+    while 0 < rest.len() {
+        let line = testlib_text::first_line(rest);
+        show_line(line);
+        let behind = testlib_text::behind_line(rest, line.len());
+        rest = behind;
     }
 }
 

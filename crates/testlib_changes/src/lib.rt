@@ -70,7 +70,6 @@ fn entry(site: Site, field: usize, index: usize) -> u64
     flow_entry(site, field, index)
 }
 
-// The field, the index and the new value.
 fn put_value(out: &mut [u8], at: usize, field: usize, index: usize, value: u64) -> usize
     ensures { λ r. ⌜ (r, now (out .exit)) ≡ puts (at, now (out .entry)) (spacedDecimal field ++ (spacedDecimal index ++ spacedDecimal value)) ⌝ }
 {

@@ -3,7 +3,7 @@ use Prim.Native.Nat.{ℕ, zero, suc, _+_, _-_, _%_, _≤_, _<_}
 use mathlib.Core.Path.{_≡_, refl, sym, _∙_, ap}
 use mathlib.Core.Bool.{true, false, not}
 use mathlib.Core.List.{List, [], _∷_}
-use lib.ListN.{length, getD, take, set, List·getD-eq-default}
+use lib.ListN.{length, getD, take, drop, set, List·getD-eq-default}
 use lib.Seq.{set-out, set-getD, getD-take}
 use borrow.Author.Needs.{needs}
 use borrow.Author.Tests.{lt-ltb, le-ltb, le-leb, lt-leb, ne-eqb, not-true, not-false}
@@ -36,15 +36,18 @@ short-at n (xs ∷ xss) (suc k) w = short-at n xss k (w .1)
 
 -- What the types tell of the fields of a site.
 module _ (s : Site) (us : List Val) (good : Is the-row s us) where
-  lengths : (length (s .parents) ≡ 63) × (length (s .capacities) ≡ 63) × (length (s .gaps) ≡ 63) × (length (s .offsets) ≡ 63) × (length (s .periods) ≡ 63)
+  long : (length (s .parents) ≡ 63) × (length (s .capacities) ≡ 63) × (length (s .gaps) ≡ 63) × (length (s .offsets) ≡ 63) × (length (s .periods) ≡ 63)
       × (length (s .states) ≡ 64) × (length (s .entries) ≡ 64) × (length (s .rates) ≡ 64) × (length (s .deadlines) ≡ 64)
-  lengths = search needs
+  long = search needs
 
   links-short : Short 63 (take 6 (fieldsOf s))
-  links-short = (omega arith, (omega (arith, lengths .0), (omega (arith, lengths .1), (omega (arith, lengths .2), (omega (arith, lengths .3), (omega (arith, lengths .4), tt))))))
+  links-short = (omega arith, (omega (arith, long .0), (omega (arith, long .1), (omega (arith, long .2), (omega (arith, long .3), (omega (arith, long .4), tt))))))
+
+  flows : Short 64 (drop 6 (fieldsOf s))
+  flows = (omega (arith, long .5), (omega (arith, long .6), (omega (arith, long .7), (omega (arith, long .8), tt))))
 
   fields-short : Short 64 (fieldsOf s)
-  fields-short = (omega arith, (omega (arith, lengths .0), (omega (arith, lengths .1), (omega (arith, lengths .2), (omega (arith, lengths .3), (omega (arith, lengths .4), (omega (arith, lengths .5), (omega (arith, lengths .6), (omega (arith, lengths .7), (omega (arith, lengths .8), tt))))))))))
+  fields-short = (omega arith, (omega (arith, long .0), (omega (arith, long .1), (omega (arith, long .2), (omega (arith, long .3), (omega (arith, long .4), flows))))))
 
 module _ (s : Site) (field index value : ℕ) where
   -- A field that has no such entry.

@@ -27,7 +27,7 @@ siteOf fields = record {
   deadlines = getD fields 9 [];
 }
 
--- The largestOf value of a field's entries: links, parents, states, entry nodes and rates have 8 bits.
+-- The largest value of a field's entries: links, parents, states, entry nodes and rates have 8 bits.
 unfoldable pub largestOf : ℕ → ℕ
 largestOf field = cond (ltb field 2) 255 (cond (ltb field 6) 65535 (cond (ltb field 9) 255 65535))
 

@@ -1,5 +1,5 @@
 -- Lines of text with decimal numbers.
-use Prim.Native.Nat.{ℕ, _-_}
+use Prim.Native.Nat.{ℕ, _+_, _-_}
 use mathlib.Core.Bool.{Bool, true, false, cond, not}
 use mathlib.Core.List.{List, [], _∷_}
 use lib.Dec.{ltb, eqb}
@@ -8,6 +8,10 @@ use Rattle.lists.specs.Search.{firstIn}
 use Rattle.text.specs.Decimal.{isDigit, valueOf}
 use Rattle.testlib_text.specs.declared.Number.{Number}
 use Rattle.testlib_text.specs.declared.Change.{Change}
+
+-- What is left of a text behind a first line of n bytes and its newline.
+unfoldable pub behindLine : List ℕ → ℕ → List ℕ
+behindLine text n = drop (n + 1) text
 
 -- The first byte of a line is this byte.
 unfoldable pub beginsWith : List ℕ → ℕ → Bool
@@ -18,16 +22,20 @@ beginsWith (c ∷ cs) byte = eqb c byte
 abbrev pub indexFrom : (ℕ → Bool) → List ℕ → ℕ → ℕ
 indexFrom p bytes start = firstIn (λ i. p (getD bytes i 0)) (length bytes) start
 
--- The index of the newline that ends the line from `start` on.
-unfoldable pub lineEnd : List ℕ → ℕ → ℕ
-lineEnd text start = indexFrom (λ c. eqb c 10) text start
+-- A byte is a digit, or else is none.
+abbrev pub digitIs : Bool → ℕ → Bool
+digitIs digit c = cond digit (isDigit c) (not (isDigit c))
+
+-- The index of the first byte from `start` on that is a digit, or else of the first that is none.
+unfoldable pub scanned : List ℕ → ℕ → Bool → ℕ
+scanned line start digit = indexFrom (digitIs digit) line start
 
 -- The first digit from `start` on, and the end of the digits that begin at `first`.
-unfoldable pub numberStart : List ℕ → ℕ → ℕ
-numberStart line start = indexFrom isDigit line start
+abbrev pub numberStart : List ℕ → ℕ → ℕ
+numberStart line start = scanned line start true
 
-unfoldable pub numberEnd : List ℕ → ℕ → ℕ
-numberEnd line first = indexFrom (λ c. not (isDigit c)) line first
+abbrev pub numberEnd : List ℕ → ℕ → ℕ
+numberEnd line first = scanned line first false
 
 -- The number whose digits stand from index `first` on and before index `next`: what the first ten of them say.
 abbrev pub decimalAt : List ℕ → ℕ → ℕ → Number

@@ -6,25 +6,30 @@ ghost use lib.ListN.{take};
 ghost use Rattle.text.specs.Decimal.{isDigit, valueOf};
 ghost use Rattle.text.specs.Put.{puts};
 ghost use Rattle.slices.specs.Written.{writing};
-ghost use Rattle.testlib_text.specs.Lines.{beginsWith, lineEnd, numberStart, numberEnd, numberFrom, changeFrom};
+ghost use Rattle.line_words.specs.Parts.{before, is};
+ghost use Rattle.testlib_text.specs.Lines.{behindLine, beginsWith, digitIs, scanned, numberFrom, changeFrom};
 ghost use Rattle.testlib_text.specs.Hex.{hexValue, hexBytes, hexStored, filled};
-ghost use Rattle.testlib_text.specs.Printed.{writtenText, leftText, numberedBytes};
+ghost use Rattle.testlib_text.specs.Printed.{writtenText, leftText, numberedBytes, lineShown};
 
-// The index of the end of the line that begins at `start`.
-pub fn line_end(text: &[u8], start: usize) -> usize
-    ensures { λ r. ⌜ r ≡ lineEnd (now (text .entry)) start ⌝ }
+// The first line of the text, without the newline that ends it.
+pub fn first_line(text: &[u8]) -> &[u8]
+    ensures { λ r. ⌜ now r ≡ before (is 10) (now (text .entry)) ⌝ }
 {
-    let mut end = start;
-    while end < text.len() {
-        if text[end] == b'\n' {
-            return end;
-        }
-        end += 1;
-    }
-    end
+    let end = line_words::find(text, 0, b'\n');
+    &text[0..end]
 }
 
-// Whether the line begins with this byte.
+// What is left of the text behind a first line of `size` bytes and its newline.
+pub fn behind_line(text: &[u8], size: usize) -> &[u8]
+    ensures { λ r. ⌜ now r ≡ behindLine (now (text .entry)) size ⌝ }
+{
+    if size < text.len() {
+        let next = size + 1;
+        return &text[next..];
+    }
+    &text[0..0]
+}
+
 pub fn begins(line: &[u8], byte: u8) -> bool
     ensures { λ r. ⌜ r ≡ beginsWith (now (line .entry)) byte ⌝ }
 {
@@ -53,7 +58,6 @@ fn digit(c: u8) -> u8
     16
 }
 
-// The byte of two hexadecimal digits.
 fn byte_of(high: u8, low: u8) -> u8
     requires { ⌜ (high < 16) × (low < 16) ⌝ }
     ensures { λ r. ⌜ r ≡ high * 16 + low ⌝ }
@@ -61,7 +65,8 @@ fn byte_of(high: u8, low: u8) -> u8
     high * 16 + low
 }
 
-// Puts the byte after the first n if there is room; answers how many there are then.
+// Puts the byte after the first n if there is room; answers how many there are then. A line may give more bytes than there is room for: where `slices::put`
+// answers one more than there are, this answers n, so that the bytes that are there can be read.
 fn store(bytes: &mut [u8], n: usize, byte: u8) -> usize
     ensures { λ r. ⌜ (r, now (bytes .exit)) ≡ hexStored (n, now (bytes .entry)) byte ⌝ }
 {
@@ -103,27 +108,22 @@ fn is_digit(c: u8) -> bool
     c <= b'9'
 }
 
-// The index of the first decimal digit from `start` on.
-fn number_start(line: &[u8], start: usize) -> usize
-    ensures { λ r. ⌜ r ≡ numberStart (now (line .entry)) start ⌝ }
+fn sought(c: u8, digit: bool) -> bool
+    ensures { λ r. ⌜ r ≡ digitIs digit c ⌝ }
+{
+    if digit {
+        return is_digit(c);
+    }
+    !is_digit(c)
+}
+
+// The index of the first byte from `start` on that is a digit or, if `digit` is false, that is none.
+fn scan(line: &[u8], start: usize, digit: bool) -> usize
+    ensures { λ r. ⌜ r ≡ scanned (now (line .entry)) start digit ⌝ }
 {
     let mut at = start;
     while at < line.len() {
-        if is_digit(line[at]) {
-            return at;
-        }
-        at += 1;
-    }
-    at
-}
-
-// The index behind the decimal digits that begin at `first`.
-fn number_end(line: &[u8], first: usize) -> usize
-    ensures { λ r. ⌜ r ≡ numberEnd (now (line .entry)) first ⌝ }
-{
-    let mut at = first;
-    while at < line.len() {
-        if !is_digit(line[at]) {
+        if sought(line[at], digit) {
             return at;
         }
         at += 1;
@@ -168,9 +168,9 @@ pub struct Number {
 pub fn next_number(line: &[u8], start: usize) -> Number
     ensures { λ r. ⌜ r ≡ numberFrom (now (line .entry)) start ⌝ }
 {
-    let first = number_start(line, start);
+    let first = scan(line, start, true);
     if first < line.len() {
-        let next = number_end(line, first);
+        let next = scan(line, first, false);
         let value = value_of(&line[first..next]);
         return Number {
             found: true,
@@ -210,7 +210,7 @@ pub fn next_change(line: &[u8], start: usize) -> Change
     }
 }
 
-// The low 8 and 16 bits of a number.
+// A line may give a number that is too large for what it is used for: the low bits are taken.
 pub fn low8(value: usize) -> u8
     ensures { λ r. ⌜ r ≡ value % 256 ⌝ }
 {
@@ -258,4 +258,12 @@ pub fn put_left(out: &mut [u8], at: usize, name: &[u8], written: Written, bytes:
     let told = put_written(out, at, name, written);
     let parted = slices::put(out, told, b":");
     hexadecimal::put_hex(out, parted, bytes)
+}
+
+// Prints the first `size` bytes as a line; answers how many bytes it handed over, none without room for the newline.
+pub fn print_line(out: &mut [u8], size: usize) -> usize
+    ensures { λ r. ⌜ (r, now (out .exit)) ≡ lineShown (size, now (out .entry)) ⌝ }
+{
+    let ended = slices::put(out, size, b"\n");
+    printing::print_front(out, ended)
 }

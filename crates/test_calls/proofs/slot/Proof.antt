@@ -34,7 +34,9 @@ part-counters-start : tie.Need-part-counters-start
 part-counters-start c = search needs
 
 part-counters-end : tie.Need-part-counters-end
-part-counters-end c = let all : length (c .before .before .before .before .before .before .before .before .before .before .args .live .counters) ≡ 577 = search needs in omega arith
+part-counters-end c =
+    let all : length (c .before .before .before .before .before .before .before .before .before .before .args .live .counters) ≡ 577 = search needs in
+    omega arith
 
 sub-slot-2 : tie.Need-sub-slot-2
 sub-slot-2 c = search needs

@@ -1,11 +1,8 @@
 -- Right because each change lies behind the one before; length line - at falls.
 use borrow.Author.Needs.{needs}
 use Prim.Native.Nat.{_-_}
-use mathlib.Core.Path.{ap}
 use lib.ListN.{length}
-use native.Mathlib.Omega.{arith}
-use Rattle.testlib_text.specs.declared.Change.{Change}
-use Rattle.testlib_text.proofs.Laws.Lines.{change-after}
+use Rattle.testlib_text.proofs.Laws.Lines.{change-less}
 use Rattle.test_schedules.proofs.altered.Statement.{statement}
 use Rattle.test_schedules.proofs.altered.Tie as tie
 
@@ -25,7 +22,7 @@ changed-requires : tie.Need-changed-requires Inv-loop μ-loop
 changed-requires c κs = search needs
 
 loop-less : tie.Need-loop-less Inv-loop μ-loop
-loop-less c = omega (arith, ap (λ (w : Change). w .next) (c .before .next-change .ensures), change-after (c .before .before .before .before .before .args .line .now) (c .before .before .before .loop .at) (omega arith))
+loop-less c = change-less _ _ _ (c .before .next-change .ensures) (c .before .before .loop-test .taken)
 
 loop-again : tie.Need-loop-again Inv-loop μ-loop
 loop-again c = tt

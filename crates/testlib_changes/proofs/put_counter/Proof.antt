@@ -26,7 +26,8 @@ same-length c = search needs
 
 returns-2 : tie.Need-returns-2
 unfolding spacedDecimal
-returns-2 c = put-other _ _ _ _ _ (c .before .before .before .before .before .before .before .before .before .before .if1 .left) (puts-then _ _ _ _ _ (c .before .before .before .before .before .before .before .put-field .ensures) (c .before .before .put-field2 .ensures))
+returns-2 c = put-other _ _ _ _ _ (c .before .before .before .before .before .before .before .before .before .before .if1 .left)
+    (puts-then _ _ _ _ _ (c .before .before .before .before .before .before .before .put-field .ensures) (c .before .before .put-field2 .ensures))
 
 pub put-counter-spec : {M : Type 1} → statement M
 put-counter-spec =

@@ -20,7 +20,8 @@ same-length : tie.Need-same-length
 same-length c = search needs
 
 returns-2 : tie.Need-returns-2
-returns-2 c = entry-other _ _ _ _ _ _ _ _ (c .before .before .before .before .before .entry2 .ensures) (c .before .before .before .before .before .before .entry .ensures) (c .before .before .before .before .if1 .left) (c .before .before .put-value .ensures)
+returns-2 c = entry-other _ _ _ _ _ _ _ _ (c .before .before .before .before .before .entry2 .ensures)
+    (c .before .before .before .before .before .before .entry .ensures) (c .before .before .before .before .if1 .left) (c .before .before .put-value .ensures)
 
 pub put-entry-spec : {M : Type 1} → statement M
 put-entry-spec =

@@ -2,12 +2,9 @@
 use borrow.Author.Needs.{needs}
 use Prim.Native.Nat.{_-_}
 use lib.ListN.{length}
-use native.Mathlib.Omega.{arith}
-use Rattle.testlib_text.proofs.Laws.Lines.{change-after}
+use Rattle.testlib_text.proofs.Laws.Lines.{change-less}
 use Rattle.testlib_sites.specs.Altered.{alteredFrom}
 use Rattle.testlib_sites.proofs.Laws.{Altering, altering-start, altering-more, altering-end}
-use mathlib.Core.Path.{ap}
-use Rattle.testlib_text.specs.declared.Change.{Change}
 use Rattle.testlib_sites.proofs.altered.Statement.{statement}
 use Rattle.testlib_sites.proofs.altered.Tie as tie
 
@@ -27,10 +24,11 @@ changed-requires : tie.Need-changed-requires Inv-loop μ-loop
 changed-requires c κs = search needs
 
 loop-less : tie.Need-loop-less Inv-loop μ-loop
-loop-less c = omega (arith, ap (λ (w : Change). w .next) (c .before .next-change .ensures), change-after (c .before .before .before .before .before .args .line .now) (c .before .before .before .loop .at) (omega arith))
+loop-less c = change-less _ _ _ (c .before .next-change .ensures) (c .before .before .loop-test .taken)
 
 loop-again : tie.Need-loop-again Inv-loop μ-loop
-loop-again c = altering-more _ _ _ _ (c .before .before .before .loop .inv) _ _ (c .before .before .loop-test .taken) (c .before .next-change .ensures) (c .changed .ensures)
+loop-again c = altering-more _ _ _ _ (c .before .before .before .loop .inv) _ _ (c .before .before .loop-test .taken) (c .before .next-change .ensures)
+    (c .changed .ensures)
 
 returns : tie.Need-returns Inv-loop μ-loop
 returns c = altering-end _ _ _ _ (c .before .loop .inv) (c .loop-test .left)

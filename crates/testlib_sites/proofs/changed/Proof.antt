@@ -17,13 +17,15 @@ with-link-entry-requires : tie.Need-with-link-entry-requires
 with-link-entry-requires c κs = (c .if3 .taken, rw (c .before .before .largest .ensures) at (c .before .if2 .left))
 
 returns-3 : tie.Need-returns-3
-returns-3 c = changed-made _ _ _ (c .before .before .before .before .if1 .left) (c .before .before .before .largest .ensures) _ (c .before .before .if2 .left) (c .with-link-entry .ensures)
+returns-3 c = changed-made _ _ _ (c .before .before .before .before .if1 .left) (c .before .before .before .largest .ensures) _ (c .before .before .if2 .left)
+    (c .with-link-entry .ensures)
 
 with-flow-entry-requires : tie.Need-with-flow-entry-requires
 with-flow-entry-requires c κs = (c .if3 .left, rw (c .before .before .largest .ensures) at (c .before .if2 .left))
 
 returns-4 : tie.Need-returns-4
-returns-4 c = changed-made _ _ _ (c .before .before .before .before .if1 .left) (c .before .before .before .largest .ensures) _ (c .before .before .if2 .left) (c .with-flow-entry .ensures)
+returns-4 c = changed-made _ _ _ (c .before .before .before .before .if1 .left) (c .before .before .before .largest .ensures) _ (c .before .before .if2 .left)
+    (c .with-flow-entry .ensures)
 
 pub changed-spec : {M : Type 1} → statement M
 changed-spec =

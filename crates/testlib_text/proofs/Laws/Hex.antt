@@ -1,4 +1,4 @@
--- Bytes that a line gives in hexadecimal, hexStored one after the other.
+-- Bytes that a line gives in hexadecimal, stored one after the other.
 use Prim.Native.Nat.{ℕ, suc, _+_, _*_, _≤_, _<_, min}
 use mathlib.Core.Path.{_≡_, refl, sym, _∙_, ap}
 use mathlib.Core.Bool.{Bool, true, false, cond}
@@ -23,7 +23,7 @@ unfolding filled
 filled-full bytes out l =
     let m : min (length bytes) (length out) ≡ length out = omega arith in rw (m, drop-of-length-le out l, append-nil)
 
--- The space stays as long as it is, and what was hexStored stands at its front.
+-- The space stays as long as it is, and what was stored stands at its front.
 pub filled-long : (bytes out : List ℕ) → length (filled bytes out .1) ≡ length out
 unfolding filled
 filled-long bytes out = simp (length-append, length-take, length-drop) (omega arith)
@@ -41,7 +41,6 @@ filled-within bytes out new n e =
     let long : length new ≡ length out = ap (λ (s : ℕ × List ℕ). length (s .1)) e ∙ filled-long bytes out in
     omega arith
 
--- One byte more.
 filled-more : (bytes out : List ℕ) (byte : ℕ) → hexStored (filled bytes out) byte ≡ filled (bytes ++ (byte ∷ [])) out
 unfolding hexStored
 filled-more bytes out byte = elim (lt-or-le (length bytes) (length out)) [
@@ -75,7 +74,7 @@ filled-more bytes out byte = elim (lt-or-le (length bytes) (length out)) [
 abbrev waiting : ℕ → List ℕ → List ℕ
 waiting high values = cond (ltb high 16) (high ∷ values) values
 
--- The bytes of the digits before index i are hexStored; those of the others make the rest.
+-- The bytes of the digits before index i are stored; those of the others make the rest.
 pub record Parsed (line old : List ℕ) (i high n : ℕ) (out : List ℕ) : Type 0 where
   pub done : List ℕ
   pub kept : (n, out) ≡ filled done old

@@ -5,8 +5,8 @@ use mathlib.Core.Bool.{Bool, true, false, cond, not}
 use mathlib.Core.List.{List, [], _∷_}
 use mathlib.Core.Logic.{inl, inr}
 use lib.Dec.{eqb}
-use lib.ListN.{length, getD, take, drop, drop-of-length-le}
-use lib.Seq.{drop-cons, take-nil}
+use lib.ListN.{length, getD, take, drop, length-drop, drop-of-length-le}
+use lib.Seq.{drop-cons, take-nil, take-all}
 use borrow.Author.Tests.{lt-ltb, le-ltb}
 use native.Mathlib.Nat.{pow-suc, pow-le-pow-right}
 use native.Mathlib.Numerals.{add-one}
@@ -15,7 +15,8 @@ use Rattle.lists.specs.Search.{first}
 use Rattle.lists.proofs.Laws.Search.{lt-or-le, first-miss, first-passes}
 use Rattle.text.specs.Decimal.{isDigit, valueFrom, valueOf}
 use Rattle.testlib_text.specs.declared.Number.{Number}
-use Rattle.testlib_text.specs.Lines.{beginsWith, indexFrom, lineEnd, numberStart, numberEnd, decimalAt, numberFrom, numberAfter, changeOf, changeFrom}
+use Rattle.testlib_text.specs.declared.Change.{Change}
+use Rattle.testlib_text.specs.Lines.{behindLine, beginsWith, indexFrom, scanned, numberStart, numberEnd, decimalAt, numberFrom, numberAfter, changeOf, changeFrom}
 
 -- The first byte of a line, where there is one.
 pub begins-none : (line : List ℕ) (byte : ℕ) → length line ≡ 0 → false ≡ beginsWith line byte
@@ -27,6 +28,20 @@ pub begins-some : (line : List ℕ) (byte : ℕ) → (length line ≡ 0 → ⊥)
 unfolding beginsWith
 begins-some [] byte n = absurd (n refl)
 begins-some (c ∷ cs) byte n = refl
+
+-- Behind a line the text goes on from the byte after the newline, or has nothing. Either way less is left of it.
+module _ (text : List ℕ) (n : ℕ) where
+  pub behind-some : take (length text - (n + 1)) (drop (n + 1) text) ≡ behindLine text n
+  unfolding behindLine
+  behind-some = take-all (length text - (n + 1)) (drop (n + 1) text) (simp length-drop (omega arith))
+
+  pub behind-none : length text ≤ n → [] ≡ behindLine text n
+  unfolding behindLine
+  behind-none l = sym (drop-of-length-le text {i = n + 1} (omega arith))
+
+  pub behind-shorter : (rest : List ℕ) → rest ≡ behindLine text n → 0 < length text → length rest < length text
+  unfolding behindLine
+  behind-shorter rest e l = rw e (simp length-drop (omega arith))
 
 -- A search ends from where it starts on, and not behind the numbers that it looks at.
 first-bounds : (p : ℕ → Bool) (r c : ℕ) → (c ≤ first p r c) × (first p r c ≤ c + r)
@@ -45,15 +60,6 @@ module _ (p : ℕ → Bool) (bytes : List ℕ) (start : ℕ) where
 
   index-within : start ≤ length bytes → indexFrom p bytes start ≤ length bytes
   index-within l = omega (arith, first-bounds (λ i. p (getD bytes i 0)) (length bytes - start) start .1)
-
-module _ (text : List ℕ) (start : ℕ) where
-  pub line-from : start ≤ lineEnd text start
-  unfolding lineEnd
-  line-from = index-from (λ c. eqb c 10) text start
-
-  pub line-within : start ≤ length text → lineEnd text start ≤ length text
-  unfolding lineEnd
-  line-within = index-within (λ c. eqb c 10) text start
 
 -- What is left of ten digits says the rest.
 pub record Saying (digits : List ℕ) (i value : ℕ) : Type 0 where
@@ -111,15 +117,15 @@ module _ (line : List ℕ) (start first : ℕ) (e : first ≡ numberStart line s
 -- The digits of a number that is found lie within the line, one at least.
 module _ (line : List ℕ) (first : ℕ) where
   pub end-from : first ≤ numberEnd line first
-  unfolding numberEnd
+  unfolding scanned
   end-from = index-from (λ c. not (isDigit c)) line first
 
   pub end-within : first ≤ length line → numberEnd line first ≤ length line
-  unfolding numberEnd
+  unfolding scanned
   end-within = index-within (λ c. not (isDigit c)) line first
 
   end-after : first < length line → isDigit (getD line first 0) ≡ true → first < numberEnd line first
-  unfolding numberEnd
+  unfolding scanned
   end-after l d =
       let e : numberEnd line first ≡ numberEnd line (first + 1) = first-miss (λ i. not (isDigit (getD line i 0))) (length line) first l (rw d) in
       let m : first + 1 ≤ numberEnd line (first + 1) = index-from (λ c. not (isDigit c)) line (first + 1) in
@@ -127,11 +133,11 @@ module _ (line : List ℕ) (first : ℕ) where
 
 module _ (line : List ℕ) (start : ℕ) where
   start-from : start ≤ numberStart line start
-  unfolding numberStart
+  unfolding scanned
   start-from = index-from isDigit line start
 
   start-digit : numberStart line start < length line → isDigit (getD line (numberStart line start) 0) ≡ true
-  unfolding numberStart
+  unfolding scanned
   start-digit l = first-passes (λ i. isDigit (getD line i 0)) (length line - start) start (omega arith)
 
   -- Behind the start, as long as something of the line is left.
@@ -170,6 +176,9 @@ module _ (line : List ℕ) (start : ℕ) where
   pub change-after : start < length line → start < changeFrom line start .next
   unfolding changeFrom
   change-after h = omega (arith, pair-after h, number-from line (two .next) (number-within line (one .next)))
+
+pub change-less : (line : List ℕ) (start : ℕ) (w : Change) → w ≡ changeFrom line start → start < length line → length line - w .next < length line - start
+change-less line start w e l = rw e (omega (arith, change-after line start l))
 
 -- The change of three numbers, each behind the one before.
 pub change-made : (line : List ℕ) (start : ℕ) (field index value : Number) → field ≡ numberFrom line start → index ≡ numberFrom line (field .next)

@@ -1,4 +1,4 @@
--- The bytes that are lent to a writer, stored one after the other.
+-- The bytes that are lent to a writer, stored one after the other; and a line that is printed.
 use Prim.Native.Nat.{ℕ, zero, suc, _+_, _-_, _≤_, _<_}
 use mathlib.Core.Path.{_≡_, refl, _∙_, ap}
 use mathlib.Core.List.{List, [], _∷_, _++_, append-nil}
@@ -7,7 +7,9 @@ use lib.Seq.{set-at, append-snoc}
 use native.Mathlib.Omega.{arith}
 use Rattle.lists.specs.Lists.{joined}
 use Rattle.lists.proofs.Laws.Items.{joined-more}
-use Rattle.testlib_text.specs.Printed.{numberedBytes}
+use Rattle.slices.specs.Put.{put}
+use Rattle.printing.specs.Printed.{front}
+use Rattle.testlib_text.specs.Printed.{numberedBytes, shown, lineShown}
 
 abbrev mark : ℕ → List ℕ
 mark i = (100 + i) ∷ []
@@ -38,3 +40,8 @@ marked-more i out m l = record {
 pub marked-end : (i : ℕ) (out : List ℕ) → Marked i out → 64 ≤ i → out ≡ numberedBytes
 unfolding numberedBytes
 marked-end i out m l = let e : i ≡ 64 = omega (arith, m .upto) in (rw e at (m .is)) ∙ append-nil (joined mark 64 0)
+
+-- A line by what the put and the print answered.
+pub line-shown : (s : ℕ × List ℕ) (n r : ℕ) (out : List ℕ) → (n, out) ≡ put s (10 ∷ []) → r ≡ front n (length out) → (r, out) ≡ lineShown s
+unfolding lineShown
+line-shown s n r out e q = ap (λ (k : ℕ). (k, out)) q ∙ ap (λ (t : ℕ × List ℕ). shown t) e

@@ -24,11 +24,21 @@ add-result c = search needs
 
 returns-4 : tie.Need-returns-4
 unfolding hexValue
-returns-4 c = sym (rw (le-ltb _ _ (c .before .before .before .if1 .left), lt-leb _ _ (c .before .before .if2 .left), le-ltb _ _ (c .before .if3 .left), le-leb _ _ (c .if4 .taken)) (omega arith))
+returns-4 c = sym (rw (
+  le-ltb _ _ (c .before .before .before .if1 .left),
+  lt-leb _ _ (c .before .before .if2 .left),
+  le-ltb _ _ (c .before .if3 .left),
+  le-leb _ _ (c .if4 .taken),
+) (omega arith))
 
 returns-5 : tie.Need-returns-5
 unfolding hexValue
-returns-5 c = sym (rw (le-ltb _ _ (c .before .before .before .if1 .left), lt-leb _ _ (c .before .before .if2 .left), le-ltb _ _ (c .before .if3 .left), lt-leb _ _ (c .if4 .left)))
+returns-5 c = sym (rw (
+  le-ltb _ _ (c .before .before .before .if1 .left),
+  lt-leb _ _ (c .before .before .if2 .left),
+  le-ltb _ _ (c .before .if3 .left),
+  lt-leb _ _ (c .if4 .left),
+))
 
 pub digit-spec : {M : Type 1} → statement M
 digit-spec = tie.close (tie.spec returns returns-2 returns-3 add-result returns-4 returns-5)

@@ -7,14 +7,15 @@ use Rattle.testlib_text.proofs.Laws.Lines.{number-found, number-none, e
 use Rattle.testlib_text.proofs.next_number.Statement.{statement}
 use Rattle.testlib_text.proofs.next_number.Tie as tie
 
-within : (c : tie.After-number-end) → (c .before .before .number-start .result ≤ c .number-end .result) × (c .number-end .result ≤ length (c .before .before .before .before .args .line .now))
-within c = rw (c .number-end .ensures) (end-from _ _, end-within _ _ (omega arith))
+within : (c : tie.After-scan2)
+    → (c .before .before .scan .result ≤ c .scan2 .result) × (c .scan2 .result ≤ length (c .before .before .before .before .args .line .now))
+within c = rw (c .scan2 .ensures) (end-from _ _, end-within _ _ (omega arith))
 
-number-start-requires : tie.Need-number-start-requires
-number-start-requires c κs = search needs
+scan-requires : tie.Need-scan-requires
+scan-requires c κs = search needs
 
-number-end-requires : tie.Need-number-end-requires
-number-end-requires c κs = search needs
+scan-requires-2 : tie.Need-scan-requires-2
+scan-requires-2 c κs = search needs
 
 sub-value-of : tie.Need-sub-value-of
 sub-value-of c = within c .0
@@ -29,17 +30,19 @@ value-of-requires : tie.Need-value-of-requires
 value-of-requires c κs = search needs
 
 returns : tie.Need-returns
-returns c = number-found _ _ _ (c .before .before .before .before .number-start .ensures) _ _ (c .before .before .before .if1 .taken) (c .before .before .number-end .ensures) (c .value-of .ensures)
+returns c =
+    number-found _ _ _ (c .before .before .before .before .scan .ensures) _ _ (c .before .before .before .if1 .taken) (c .before .before .scan2 .ensures)
+    (c .value-of .ensures)
 
 returns-2 : tie.Need-returns-2
-returns-2 c = number-none _ _ _ (c .before .number-start .ensures) (c .if1 .left)
+returns-2 c = number-none _ _ _ (c .before .scan .ensures) (c .if1 .left)
 
 pub next-number-spec : {M : Type 1} → statement M
 next-number-spec =
     tie.close
     (tie.spec
-    number-start-requires
-    number-end-requires
+    scan-requires
+    scan-requires-2
     sub-value-of
     part-value-of-start
     part-value-of-end

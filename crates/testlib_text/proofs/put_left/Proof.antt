@@ -22,7 +22,8 @@ same-length c = search needs
 
 returns : tie.Need-returns
 unfolding leftText
-returns c = puts-then _ _ _ _ _ (c .before .before .before .before .before .before .before .before .before .before .before .put-written .ensures) (puts-then _ _ _ _ _ (puts-one _ _ _ (c .before .before .before .before .before .before .put .ensures)) (c .before .before .put-hex .ensures))
+returns c = puts-then _ _ _ _ _ (c .before .before .before .before .before .before .before .before .before .before .before .put-written .ensures)
+    (puts-then _ _ _ _ _ (puts-one _ _ _ (c .before .before .before .before .before .before .put .ensures)) (c .before .before .put-hex .ensures))
 
 pub put-left-spec : {M : Type 1} → statement M
 put-left-spec =

@@ -34,7 +34,9 @@ same-length c = search needs
 
 returns : tie.Need-returns
 unfolding writtenText
-returns c = rw (c .before .before .before .before .before .before .written .given .1) (puts-then _ _ _ _ _ (puts-one _ _ _ (c .before .before .before .before .before .before .before .before .before .before .put .ensures)) (c .before .before .put-field .ensures))
+returns c = rw (c .before .before .before .before .before .before .written .given .1)
+    (puts-then _ _ _ _ _ (puts-one _ _ _ (c .before .before .before .before .before .before .before .before .before .before .put .ensures))
+    (c .before .before .put-field .ensures))
 
 same-length-2 : tie.Need-same-length-2
 same-length-2 c = search needs
@@ -42,7 +44,8 @@ same-length-2 c = search needs
 returns-2 : tie.Need-returns-2
 unfolding writtenText
 returns-2 c = rw (c .before .before .before .before .before .before .before .before .before .before .written2 .given .1)
-    (puts-then _ _ _ _ _ (puts-one _ _ _ (c .before .before .before .before .before .before .before .before .before .before .before .before .before .before .put .ensures))
+    (puts-then _ _ _ _ _
+    (puts-one _ _ _ (c .before .before .before .before .before .before .before .before .before .before .before .before .before .before .put .ensures))
     (puts-then _ _ _ _ _ (puts-one _ _ _ (c .before .before .before .before .before .before .put2 .ensures)) (c .before .before .put-refusal .ensures)))
 
 pub put-written-spec : {M : Type 1} → statement M

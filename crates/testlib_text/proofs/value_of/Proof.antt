@@ -42,7 +42,8 @@ loop-less : tie.Need-loop-less Inv-loop μ-loop
 loop-less c = search needs
 
 loop-again : tie.Need-loop-again Inv-loop μ-loop
-loop-again c = saying-more _ _ _ _ (c .before .before .before .before .loop .inv) (c .before .before .before .loop-test .taken) (c .before .before .if1 .left) (c .above-zero .ensures) (small c)
+loop-again c = saying-more _ _ _ _ (c .before .before .before .before .loop .inv) (c .before .before .before .loop-test .taken) (c .before .before .if1 .left)
+    (c .above-zero .ensures) (small c)
 
 returns-2 : tie.Need-returns-2 Inv-loop μ-loop
 returns-2 c = saying-end _ _ _ (c .before .loop .inv) (c .loop-test .left)
