@@ -2,11 +2,11 @@
 use borrow.Author.Needs.{needs}
 use mathlib.Core.Path.{sym, _∙_, ap}
 use Rattle.rulings.specs.Outcome.{accepted, ruling}
-use Rattle.slotplan_lib.specs.Calls.{valued}
-use Rattle.slotplan_lib.proofs.Laws.Told.{told-value, number-tellable}
+use Rattle.host_answers.specs.Answers.{valued}
+use Rattle.host_answers.proofs.Laws.Told.{told-value, told-no, number-tellable}
 use native.Mathlib.Omega.{arith}
-use Rattle.slotplan_lib.proofs.answers.bound_of.Statement.{statement}
-use Rattle.slotplan_lib.proofs.answers.bound_of.Tie as tie
+use Rattle.host_answers.proofs.bound_of.Statement.{statement}
+use Rattle.host_answers.proofs.bound_of.Tie as tie
 
 judge-number-requires : tie.Need-judge-number-requires
 judge-number-requires c κs = search needs
@@ -24,7 +24,7 @@ enum-known-verdict : tie.Need-enum-known-verdict
 enum-known-verdict c = search needs
 
 refusal-requires : tie.Need-refusal-requires
-refusal-requires c κs = number-tellable (c .before .before .before .before .args .site) (c .before .before .before .before .args .number) (omega arith) .near _ _ (sym (c .before .before .before .judge-number .ensures) ∙ ap ruling (c .before .verdict .given .1))
+refusal-requires c κs = search needs
 
 returns : tie.Need-returns
 unfolding valued
@@ -34,7 +34,11 @@ returns c =
 
 returns-2 : tie.Need-returns-2
 unfolding valued
-returns-2 c = rw (← c .before .before .before .before .judge-number .ensures, c .before .before .verdict .given .1) (c .refusal .ensures)
+returns-2 c =
+    let judged = c .before .before .before .before in
+    let room = number-tellable (judged .before .args .site) (judged .before .args .number) (omega arith) .near _ _
+        (sym (judged .judge-number .ensures) ∙ ap ruling (c .before .before .verdict .given .1)) in
+    rw (← judged .judge-number .ensures, c .before .before .verdict .given .1) (told-no _ _ _ (c .refusal .ensures) (room .0) (room .1))
 
 pub bound-of-spec : {M : Type 1} → statement M
 bound-of-spec =

@@ -3,9 +3,9 @@ use borrow.Author.Needs.{needs}
 use Prim.Native.Nat.{_≤_}
 use native.Mathlib.Omega.{arith}
 use Rattle.site.proofs.Laws.Flows.{flows-few}
-use Rattle.slotplan_lib.proofs.Laws.Told.{told-value}
-use Rattle.slotplan_lib.proofs.answers.sizes.Statement.{statement}
-use Rattle.slotplan_lib.proofs.answers.sizes.Tie as tie
+use Rattle.host_answers.proofs.Laws.Told.{told-value}
+use Rattle.host_answers.proofs.sizes.Statement.{statement}
+use Rattle.host_answers.proofs.sizes.Tie as tie
 
 -- The flows are 64 at most.
 few : (c : tie.After-flow-count) → c .flow-count .result ≤ 64
@@ -21,7 +21,7 @@ mul-result : tie.Need-mul-result
 mul-result c = omega (arith, few (c .before))
 
 add-result : tie.Need-add-result
-add-result c = omega (arith, few (c .before .before))
+add-result c = omega (arith, few (c .before))
 
 returns : tie.Need-returns
 returns c = rw (← c .before .flow-count .ensures) (told-value _ (omega (arith, few (c .before))))

@@ -1,11 +1,11 @@
-// Answers of 64 bits.
+// Answers of 64 bits, in which a host is told what a call comes to.
 use pinwheel::Answer;
 use rulings::Verdict;
 use sender::Lookup;
 use site::Site;
 use slices::Written;
 ghost use mathlib.Core.Path.{_≡_};
-ghost use Prim.Native.Nat.{_+_, _*_, _≤_};
+ghost use Prim.Native.Nat.{_+_, _*_};
 ghost use Rattle.rulings.specs.Outcome.{accepted, refused, ruling};
 ghost use Rattle.pinwheel.specs.Assign.{outcome};
 ghost use Rattle.site.specs.Sites.{flowCount};
@@ -13,20 +13,17 @@ ghost use Rattle.reservations.specs.Reservations.{delayBound};
 ghost use Rattle.admission.specs.Calls.{numberRuling};
 ghost use Rattle.sender.specs.Sender.{found};
 ghost use Rattle.slices.specs.Written.{writing};
-ghost use Rattle.slotplan_lib.specs.Calls.{told, valued};
-ghost use Rattle.slotplan_lib.specs.Inner.{Tellable, Short};
+ghost use Rattle.host_answers.specs.Answers.{told, answerOf, valued};
 
-// The number in the highest 8 bits, the place in the others.
-pub(crate) fn refusal(number: u8, place: usize) -> u64
-    requires { ⌜ (1 ≤ number) × (place ≤ 763) ⌝ }
-    ensures { λ r. ⌜ told r ≡ refused number place ⌝ }
+// The number in the highest 8 bits, the place in the others. Every place that a call tells is below 2^56.
+pub fn refusal(number: u8, place: usize) -> u64
+    ensures { λ r. ⌜ r ≡ answerOf (refused number place) ⌝ }
 {
-    number as u64 * 72057594037927936 + place as u64
+    number as u64 * 72057594037927936 + place as u64 % 72057594037927936
 }
 
-pub(crate) fn ruled(verdict: Verdict) -> u64
-    requires { ⌜ Tellable (ruling verdict) ⌝ }
-    ensures { λ r. ⌜ told r ≡ valued (ruling verdict) 0 ⌝ }
+pub fn ruled(verdict: Verdict) -> u64
+    ensures { λ r. ⌜ r ≡ answerOf (valued (ruling verdict) 0) ⌝ }
 {
     match verdict {
         Verdict::Accepted => 0,
@@ -34,19 +31,17 @@ pub(crate) fn ruled(verdict: Verdict) -> u64
     }
 }
 
-pub(crate) fn size(written: Written) -> u64
-    requires { ⌜ Tellable (writing written) × Short (writing written) ⌝ }
-    ensures { λ r. ⌜ told r ≡ writing written ⌝ }
+pub fn size(written: Written) -> u64
+    ensures { λ r. ⌜ r ≡ answerOf (writing written) ⌝ }
 {
     match written {
-        Written::Length(n) => n as u64,
+        Written::Length(n) => n as u64 % 72057594037927936,
         Written::Refused(number, place) => refusal(number, place),
     }
 }
 
-pub(crate) fn child(lookup: Lookup) -> u64
-    requires { ⌜ Tellable (found lookup) ⌝ }
-    ensures { λ r. ⌜ told r ≡ found lookup ⌝ }
+pub fn child(lookup: Lookup) -> u64
+    ensures { λ r. ⌜ r ≡ answerOf (found lookup) ⌝ }
 {
     match lookup {
         Lookup::Child(node) => node as u64,
@@ -54,9 +49,8 @@ pub(crate) fn child(lookup: Lookup) -> u64
     }
 }
 
-pub(crate) fn base(answer: Answer) -> u64
-    requires { ⌜ Tellable (outcome answer) ⌝ }
-    ensures { λ r. ⌜ told r ≡ outcome answer ⌝ }
+pub fn base(answer: Answer) -> u64
+    ensures { λ r. ⌜ r ≡ answerOf (outcome answer) ⌝ }
 {
     match answer {
         Answer::Base(base) => base as u64,
@@ -65,7 +59,7 @@ pub(crate) fn base(answer: Answer) -> u64
 }
 
 // The links in the lowest 8 bits of the value, the flows in the next.
-pub(crate) fn sizes(site: Site) -> u64
+pub fn sizes(site: Site) -> u64
     ensures { λ r. ⌜ told r ≡ accepted (site .links + 256 * flowCount site) ⌝ }
 {
     let flows = site::flow_count(site);
@@ -73,7 +67,7 @@ pub(crate) fn sizes(site: Site) -> u64
 }
 
 // The bound of a live flow.
-pub(crate) fn bound_of(site: Site, number: u8) -> u64
+pub fn bound_of(site: Site, number: u8) -> u64
     ensures { λ r. ⌜ told r ≡ valued (numberRuling site number) (delayBound site number) ⌝ }
 {
     let verdict = admission::judge_number(site, number);

@@ -1,11 +1,9 @@
--- Right because a node is a number of 8 bits, and a refusal is told by its number and place.
+-- Right because a node is a number of 8 bits, and a refusal is put by its number and place.
 use borrow.Author.Needs.{needs}
-use mathlib.Core.Path.{ap}
-use Rattle.sender.specs.Sender.{found}
-use Rattle.slotplan_lib.proofs.Laws.Told.{told-value}
 use native.Mathlib.Omega.{arith}
-use Rattle.slotplan_lib.proofs.answers.child.Statement.{statement}
-use Rattle.slotplan_lib.proofs.answers.child.Tie as tie
+use Rattle.host_answers.specs.Answers.{answerOf}
+use Rattle.host_answers.proofs.child.Statement.{statement}
+use Rattle.host_answers.proofs.child.Tie as tie
 
 enum-known-lookup : tie.Need-enum-known-lookup
 enum-known-lookup c = search needs
@@ -17,10 +15,11 @@ enum-known-lookup-2 : tie.Need-enum-known-lookup-2
 enum-known-lookup-2 c = search needs
 
 refusal-requires : tie.Need-refusal-requires
-refusal-requires c κs = c .before .before .before .pre .near _ _ (ap found (c .before .lookup2 .given .1))
+refusal-requires c κs = search needs
 
 returns : tie.Need-returns
-returns c = rw (c .before .lookup .given .1) (told-value _ (omega arith))
+unfolding answerOf
+returns c = rw (c .before .lookup .given .1) (omega arith)
 
 returns-2 : tie.Need-returns-2
 returns-2 c = rw (c .before .before .lookup2 .given .1) (c .refusal .ensures)
