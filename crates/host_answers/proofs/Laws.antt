@@ -10,21 +10,21 @@ use borrow.Author.Tests.{eqb-true}
 use native.Mathlib.Omega.{arith}
 use Rattle.rulings.specs.Outcome.{Outcome, Ruling, accepted, refused}
 use Rattle.rulings.proofs.Laws.Outcomes.{refused-not}
-use Rattle.host_answers.specs.Answers.{told, answerOf, valued, Tellable, Short}
-use Rattle.host_answers.proofs.Laws.Told.{told-value, told-no}
+use Rattle.host_answers.specs.Answers.{told, answerOf, valued, Tellable}
+use Rattle.host_answers.proofs.Laws.Told.{told-value, told-no, Room, value-room}
 
 -- An answer tells the outcome that it was made of: every number of a refusal is 1 at least, and places and values have 56 bits.
-pub told-answer : (o : Outcome ℕ) → Tellable o → Short o → told (answerOf o) ≡ o
+pub told-answer : (o : Outcome ℕ) → Room o → told (answerOf o) ≡ o
 unfolding answerOf
-told-answer (accepted value) w l =
-    let low : value < 2 ^ 56 = l .low value refl in let e : value % 2 ^ 56 ≡ value = omega arith in rw e (told-value value low)
-told-answer (refused number place) w l = told-no _ number place refl (w .near number place refl .0) (w .near number place refl .1)
+told-answer (accepted value) w =
+    let low : value < 2 ^ 56 = w .1 .low value refl in let e : value % 2 ^ 56 ≡ value = omega arith in rw e (told-value value low)
+told-answer (refused number place) w = let near = w .0 .near number place refl in told-no _ number place refl (near .0) (near .1)
 
 -- The same of a ruling with a value beside it.
 pub told-valued : (r : Ruling) (value : ℕ) → Tellable r → value < 2 ^ 56 → told (answerOf (valued r value)) ≡ valued r value
 unfolding valued
-told-valued (accepted a) value w l = told-answer (accepted value) (record { near = λ number place e. absurd (refused-not _ e refl) }) (record { low = λ v e. let z : value ≡ v = cc in omega arith })
-told-valued (refused number place) value w l = told-no _ number place refl (w .near number place refl .0) (w .near number place refl .1)
+told-valued (accepted a) value w l = told-answer (accepted value) (value-room value l)
+told-valued (refused number place) value w l = let near = w .near number place refl in told-no _ number place refl (near .0) (near .1)
 
 -- No two answers tell the same, so an equation about what is told is one about the answer.
 pub told-once : (a b : ℕ) → told a ≡ told b → a ≡ b

@@ -42,34 +42,38 @@ number-tellable s n l =
     tellable _ (near-check 763 (ltb 63 n) 5 0 _ (omega arith) (λ e. omega arith)
     (near-check 763 (not (live s n)) 16 n _ (omega arith) (λ e. omega arith) (near-accepted 763 tt)))
 
+-- An outcome has room in an answer, its refusal and its value.
+abbrev pub Room : Outcome ℕ → Type 0
+Room o = Tellable o × Short o
+
+pub value-room : (v : ℕ) → v < 2 ^ 56 → Room (accepted v)
+value-room v l = (record { near = λ number place e. absurd (refused-not _ e refl) }, record { low = λ u e. let z : v ≡ u = cc in omega arith })
+
+pub refusal-room : (number place : ℕ) → 1 ≤ number → place ≤ 763 → Room (refused number place)
+refusal-room number place some near =
+    (tellable _ (near-refused 763 number place some near), record { low = λ v e. absurd (refused-not _ refl e) })
+
 -- What is written has at most 763 bytes.
-abbrev Fitting : Outcome ℕ × List ℕ → Type 0
-Fitting r = Tellable (r .0) × Short (r .0)
-
-refusal-fitting : (number place : ℕ) (out : List ℕ) → 1 ≤ number → place ≤ 763 → Fitting (refused number place, out)
-refusal-fitting number place out some near =
-    (tellable _ (near-refused 763 number place some near), record { low = λ v f. absurd (refused-not _ refl f) })
-
 module _ (bytes out : List ℕ) where
-  written-fitting : length bytes ≤ 763 → Fitting (written bytes out)
+  written-room : length bytes ≤ 763 → Room (written bytes out .0)
   unfolding written
-  written-fitting few = go (ltb (length out) (length bytes))
+  written-room few = go (ltb (length out) (length bytes))
     where
-      go : (b : Bool) → Fitting (cond b (refused 1 0, out) (accepted (length bytes), bytes ++ drop (length bytes) out))
-      go true = refusal-fitting 1 0 out (omega arith) (omega arith)
-      go false = (tellable _ (near-accepted 763 (length bytes)), record { low = λ v f. let z : length bytes ≡ v = cc in omega arith })
+      go : (b : Bool) → Room (cond {A = Outcome ℕ × List ℕ} b (refused 1 0, out) (accepted (length bytes), bytes ++ drop (length bytes) out) .0)
+      go true = refusal-room 1 0 (omega arith) (omega arith)
+      go false = value-room (length bytes) (omega arith)
 
-  pub handed-fitting : (p : Bool) → (p ≡ true → length bytes ≤ 763) → (o : Outcome ℕ) (ds : List ℕ) → (o, ds) ≡ handed p bytes out → Tellable o × Short o
+  pub handed-room : (p : Bool) → (p ≡ true → length bytes ≤ 763) → (o : Outcome ℕ) (ds : List ℕ) → (o, ds) ≡ handed p bytes out → Room o
   unfolding handed
-  handed-fitting p few o ds e = rw (ap (λ (q : Outcome ℕ × List ℕ). q .0) e) (go p few)
+  handed-room p few o ds e = rw (ap (λ (q : Outcome ℕ × List ℕ). q .0) e) (go p few)
     where
-      go : (a : Bool) → (a ≡ true → length bytes ≤ 763) → Fitting (cond a (written bytes out) (refused 14 0, out))
-      go true few = written-fitting (few refl)
-      go false few = refusal-fitting 14 0 out (omega arith) (omega arith)
+      go : (a : Bool) → (a ≡ true → length bytes ≤ 763) → Room (cond {A = Outcome ℕ × List ℕ} a (written bytes out) (refused 14 0, out) .0)
+      go true few = written-room (few refl)
+      go false few = refusal-room 14 0 (omega arith) (omega arith)
 
-  pub fitting : (links : ℕ) → (links ≤ 63 → length bytes ≤ 763) → (o : Outcome ℕ) (ds : List ℕ) → (o, ds) ≡ encoded links bytes out → Tellable o × Short o
+  pub encoded-room : (links : ℕ) → (links ≤ 63 → length bytes ≤ 763) → (o : Outcome ℕ) (ds : List ℕ) → (o, ds) ≡ encoded links bytes out → Room o
   unfolding encoded
-  fitting links few o ds e = handed-fitting (leb links 63) (λ t. few (leb-true _ _ t)) o ds e
+  encoded-room links few o ds e = handed-room (leb links 63) (λ t. few (leb-true _ _ t)) o ds e
 
 pub schedule-few : (s : Schedule) → s .links ≤ 63 → length (scheduleBytes s) ≤ 763
 schedule-few s l = omega (arith, schedule-size s (scheduleSize 17) refl, links-few s (scheduleSize 17) refl l)

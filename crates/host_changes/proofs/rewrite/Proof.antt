@@ -3,7 +3,7 @@ use borrow.Author.Needs.{needs}
 use mathlib.Core.Path.{_∙_, ap}
 use Rattle.slices.specs.Written.{writing}
 use Rattle.site_check.proofs.Laws.Passing.{plain-writing}
-use Rattle.host_answers.proofs.Laws.Told.{told-value, told-no, fitting}
+use Rattle.host_answers.proofs.Laws.Told.{told-value, told-no, encoded-room}
 use Rattle.host_changes.proofs.Laws.Changes.{plan-few, stored-yes, stored-no}
 use Rattle.host_changes.proofs.rewrite.Statement.{statement}
 use Rattle.host_changes.proofs.rewrite.Tie as tie
@@ -34,7 +34,7 @@ returns c =
     let written = c .before .before .before .before .before in
     let encoded = written .before .before .before .before in
     let start = encoded .before .before .before .before in
-    let low = fitting _ _ _ (plan-few _) _ _ (encoded .encode-plan .ensures) .1 .low _ (ap writing (written .written .given .1)) in
+    let low = encoded-room _ _ _ (plan-few _) _ _ (encoded .encode-plan .ensures) .1 .low _ (ap writing (written .written .given .1)) in
     rw (told-value (written .written .given .0 .0) low)
     (stored-yes _ _ _ _ _ (start .pre .2) (start .pre .1)
     (rw (written .written .given .1) at (encoded .encode-plan .ensures) ∙ plain-writing _ _ _ (start .pre .0)) _ (c .before .before .clear-flow .ensures))
@@ -45,7 +45,7 @@ same-length-3 c = search needs
 returns-2 : tie.Need-returns-2
 returns-2 c =
     let encoded = c .before .before .before .before .before .before in
-    let room = fitting _ _ _ (plan-few _) _ _ (encoded .encode-plan .ensures) .0 .near _ _ (ap writing (c .before .before .written2 .given .1)) in
+    let room = encoded-room _ _ _ (plan-few _) _ _ (encoded .encode-plan .ensures) .0 .near _ _ (ap writing (c .before .before .written2 .given .1)) in
     rw (told-no _ _ _ (c .refusal .ensures) (room .0) (room .1))
     (stored-no _ _ _ _ _ _ (rw (c .before .before .written2 .given .1) at (encoded .encode-plan .ensures)
     ∙ plain-writing _ _ _ (encoded .before .before .before .before .pre .0)))
