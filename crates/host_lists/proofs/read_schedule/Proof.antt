@@ -2,24 +2,26 @@
 use borrow.Author.Needs.{needs}
 use mathlib.Core.Path.{_∙_}
 use native.Mathlib.Omega.{arith}
-use Rattle.slotplan_lib.specs.Calls.{scheduleReadFrom}
-use Rattle.slotplan_lib.proofs.Laws.Calls.{by-yes, by-no, schedule-yes, schedule-no, schedule-close, of-length, off-length}
-use Rattle.slotplan_lib.proofs.slotplan_read_schedule.Statement.{statement}
-use Rattle.slotplan_lib.proofs.slotplan_read_schedule.Tie as tie
+use Rattle.host_lists.specs.Lists.{scheduleReadFrom}
+use Rattle.host_answers.proofs.Laws.Told.{told-no}
+use Rattle.host_answers.proofs.Laws.Calls.{by-yes, by-no, of-length, off-length}
+use Rattle.host_lists.proofs.Laws.Ends.{schedule-yes, schedule-no, schedule-told}
+use Rattle.host_lists.proofs.read_schedule.Statement.{statement}
+use Rattle.host_lists.proofs.read_schedule.Tie as tie
 
 refusal-requires : tie.Need-refusal-requires
 refusal-requires c κs = search needs
 
 returns : tie.Need-returns
 unfolding scheduleReadFrom
-returns c = rw (c .refusal .ensures) (off-length _ _ _ _ (c .before .if1 .taken))
+returns c = rw (told-no _ _ _ (c .refusal .ensures) (omega arith) (omega arith)) (off-length _ _ _ _ (c .before .if1 .taken))
 
 refusal-requires-2 : tie.Need-refusal-requires-2
 refusal-requires-2 c κs = search needs
 
 returns-2 : tie.Need-returns-2
 unfolding scheduleReadFrom
-returns-2 c = rw (c .refusal2 .ensures) (off-length _ _ _ _ (c .before .if2 .taken) ∙ of-length _ _ _ _ (c .before .before .if1 .left))
+returns-2 c = rw (told-no _ _ _ (c .refusal2 .ensures) (omega arith) (omega arith)) (off-length _ _ _ _ (c .before .if2 .taken) ∙ of-length _ _ _ _ (c .before .before .if1 .left))
 
 read-schedule-requires : tie.Need-read-schedule-requires
 read-schedule-requires c κs = search needs
@@ -34,7 +36,7 @@ enum-known-verdict : tie.Need-enum-known-verdict
 enum-known-verdict c = search needs
 
 refusal-requires-3 : tie.Need-refusal-requires-3
-refusal-requires-3 c κs = schedule-close _ _ _ (c .before .before .before .read-schedule .ensures) (λ i. omega (arith, c .before .before .before .before .before .before .before .before .shared-slice-known .given i)) _ _ (c .before .verdict .given .1)
+refusal-requires-3 c κs = search needs
 
 same-length : tie.Need-same-length
 same-length c = search needs
@@ -44,19 +46,23 @@ same-length-2 c = search needs
 
 returns-3 : tie.Need-returns-3
 unfolding scheduleReadFrom
-returns-3 c = let read = c .before .before .before .before .before .before .before .before .before in
-    c .before .before .before .before .given .ensures ∙ by-yes _ _ _ _ (schedule-yes _ _ _ (read .read-schedule .ensures) (c .before .before .before .before .before .before .before .enum-told .given .1))
+returns-3 c =
+    let told = c .before .before .before .before .before .before .before in
+    let read = told .before .before in
+    c .before .before .before .before .given .ensures ∙ by-yes _ _ _ _ (schedule-yes _ _ _ (read .read-schedule .ensures) (told .enum-told .given .1))
     ∙ of-length _ _ _ _ (read .before .if2 .left) ∙ of-length _ _ _ _ (read .before .before .if1 .left)
 
 returns-4 : tie.Need-returns-4
 unfolding scheduleReadFrom
-returns-4 c = let read = c .before .before .before .before in
-    rw (c .refusal3 .ensures)
-    (by-no _ _ _ _ _ (schedule-no _ _ _ (read .read-schedule .ensures) _ _ (c .before .before .verdict .given .1))
+returns-4 c =
+    let read = c .before .before .before .before in
+    let no = c .before .before .verdict .given .1 in
+    rw (schedule-told _ _ _ (read .read-schedule .ensures) (λ i. omega (arith, read .before .before .before .before .before .shared-slice-known .given i)) _ _ _ no (c .refusal3 .ensures))
+    (by-no _ _ _ _ _ (schedule-no _ _ _ (read .read-schedule .ensures) _ _ no)
     ∙ of-length _ _ _ _ (read .before .if2 .left) ∙ of-length _ _ _ _ (read .before .before .if1 .left))
 
-pub slotplan-read-schedule-spec : {M : Type 1} → statement M
-slotplan-read-schedule-spec =
+pub read-schedule-spec : {M : Type 1} → statement M
+read-schedule-spec =
     tie.close
     (tie.spec
     refusal-requires

@@ -1,8 +1,8 @@
 -- Right because both lists are filled with those of the schedule, whose links have room in an answer.
 use borrow.Author.Needs.{needs}
-use Rattle.slotplan_lib.proofs.Laws.Told.{told-value}
-use Rattle.slotplan_lib.proofs.links.given.Statement.{statement}
-use Rattle.slotplan_lib.proofs.links.given.Tie as tie
+use Rattle.host_answers.proofs.Laws.Told.{told-value}
+use Rattle.host_lists.proofs.given.Statement.{statement}
+use Rattle.host_lists.proofs.given.Tie as tie
 
 fill-requires : tie.Need-fill-requires
 fill-requires c κs = search needs
@@ -20,7 +20,10 @@ same-length-2 : tie.Need-same-length-2
 same-length-2 c = search needs
 
 returns : tie.Need-returns
-returns c = rw (c .before .before .before .before .before .before .before .fill .ensures, c .before .before .before .fill2 .ensures, told-value (c .before .before .before .before .before .before .before .before .before .before .before .before .before .args .schedule .links) (search needs))
+returns c =
+    let second = c .before .before .before in
+    let first = second .before .before .before .before in
+    rw (first .fill .ensures, second .fill2 .ensures, told-value (first .before .before .before .before .before .before .args .schedule .links) (search needs))
 
 pub given-spec : {M : Type 1} → statement M
 given-spec =

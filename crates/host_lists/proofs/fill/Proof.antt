@@ -1,18 +1,20 @@
 -- Right because the entries below i have been copied; 63 - i falls.
 use borrow.Author.Needs.{needs}
 use Prim.Native.Nat.{_-_}
-use Rattle.slotplan_lib.proofs.Laws.Lists.{Copied, copied-start, copied-more, copied-end}
-use Rattle.slotplan_lib.proofs.links.fill.Statement.{statement}
-use Rattle.slotplan_lib.proofs.links.fill.Tie as tie
+use mathlib.Core.Path.{refl, _∙_}
+use mathlib.Core.List.{map-id}
+use Rattle.lists.proofs.Laws.Lists.{Filled, filled-start, filled-more, filled-end}
+use Rattle.host_lists.proofs.fill.Statement.{statement}
+use Rattle.host_lists.proofs.fill.Tie as tie
 
 abbrev Inv-loop : tie.InvT-loop
-Inv-loop list₀ entries i₀ list i = Copied entries list i
+Inv-loop list₀ entries i₀ list i = Filled 0 0 (λ x. x) entries i list
 
 abbrev μ-loop : tie.MeasureT-loop
 μ-loop list₀ entries i₀ list i = 63 - i
 
 loop-holds : tie.Need-loop-holds Inv-loop μ-loop
-loop-holds c = copied-start _ _ (search needs)
+loop-holds c = filled-start _ _ _ _ _ (search needs)
 
 mul-list : tie.Need-mul-list Inv-loop μ-loop
 mul-list c = search needs
@@ -33,13 +35,13 @@ loop-less : tie.Need-loop-less Inv-loop μ-loop
 loop-less c = search needs
 
 loop-again : tie.Need-loop-again Inv-loop μ-loop
-loop-again c = copied-more _ _ _ (c .before .loop .inv) (search needs)
+loop-again c = filled-more _ _ _ _ _ _ _ (c .before .loop .inv) (search needs) refl
 
 same-length : tie.Need-same-length Inv-loop μ-loop
 same-length c = let long = c .before .loop .inv .long in search needs
 
 returns : tie.Need-returns Inv-loop μ-loop
-returns c = copied-end _ _ _ (c .before .loop .inv) (search needs)
+returns c = filled-end _ _ _ _ _ _ (c .before .loop .inv) (search needs) ∙ map-id _
 
 pub fill-spec : {M : Type 1} → statement M
 fill-spec =

@@ -1,18 +1,20 @@
 -- Right because the entries below i have been copied; 63 - i falls.
 use borrow.Author.Needs.{needs}
 use Prim.Native.Nat.{_-_}
-use Rattle.slotplan_lib.proofs.Laws.Lists.{Copied, copied-start, copied-more, copied-end}
-use Rattle.slotplan_lib.proofs.links.entries_of.Statement.{statement}
-use Rattle.slotplan_lib.proofs.links.entries_of.Tie as tie
+use mathlib.Core.Path.{refl, _∙_}
+use mathlib.Core.List.{map-id}
+use Rattle.lists.proofs.Laws.Lists.{Filled, filled-start, filled-more, filled-end}
+use Rattle.host_lists.proofs.entries_of.Statement.{statement}
+use Rattle.host_lists.proofs.entries_of.Tie as tie
 
 abbrev Inv-loop : tie.InvT-loop
-Inv-loop list entries₀ i₀ entries i = Copied list entries i
+Inv-loop list entries₀ i₀ entries i = Filled 0 0 (λ x. x) list i entries
 
 abbrev μ-loop : tie.MeasureT-loop
 μ-loop list entries₀ i₀ entries i = 63 - i
 
 loop-holds : tie.Need-loop-holds Inv-loop μ-loop
-loop-holds c = copied-start _ _ (search needs)
+loop-holds c = filled-start _ _ _ _ _ (search needs)
 
 mul-entries : tie.Need-mul-entries Inv-loop μ-loop
 mul-entries c = search needs
@@ -33,10 +35,10 @@ loop-less : tie.Need-loop-less Inv-loop μ-loop
 loop-less c = search needs
 
 loop-again : tie.Need-loop-again Inv-loop μ-loop
-loop-again c = copied-more _ _ _ (c .before .before .loop .inv) (search needs)
+loop-again c = filled-more _ _ _ _ _ _ _ (c .before .before .loop .inv) (search needs) refl
 
 returns : tie.Need-returns Inv-loop μ-loop
-returns c = copied-end _ _ _ (c .before .loop .inv) (search needs)
+returns c = filled-end _ _ _ _ _ _ (c .before .loop .inv) (search needs) ∙ map-id _
 
 pub entries-of-spec : {M : Type 1} → statement M
 entries-of-spec =
