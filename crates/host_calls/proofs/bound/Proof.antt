@@ -1,10 +1,12 @@
 -- Right because 14 is judged first, and the bound is one of the site that the plan is read to.
 use borrow.Author.Needs.{needs}
 use mathlib.Core.Path.{_∙_}
-use Rattle.slotplan_lib.specs.Calls.{boundFrom}
-use Rattle.slotplan_lib.proofs.Laws.Calls.{on-yes, on-no}
-use Rattle.slotplan_lib.proofs.slotplan_bound.Statement.{statement}
-use Rattle.slotplan_lib.proofs.slotplan_bound.Tie as tie
+use native.Mathlib.Omega.{arith}
+use Rattle.host_calls.specs.Calls.{boundFrom}
+use Rattle.host_answers.proofs.Laws.Told.{told-no}
+use Rattle.host_answers.proofs.Laws.Calls.{on-yes, on-no}
+use Rattle.host_calls.proofs.bound.Statement.{statement}
+use Rattle.host_calls.proofs.bound.Tie as tie
 
 read-plan-requires : tie.Need-read-plan-requires
 read-plan-requires c κs = search needs
@@ -27,10 +29,12 @@ returns c = c .bound-of .ensures ∙ on-yes _ _ _ (c .before .before .before .re
 
 returns-2 : tie.Need-returns-2
 unfolding boundFrom
-returns-2 c = c .refusal .ensures ∙ on-no _ _ _ (c .before .before .before .before .read-plan .ensures) _ _ _ _ (c .before .before .verdict .given .1)
+returns-2 c =
+    told-no _ _ _ (c .refusal .ensures) (omega arith) (omega arith)
+    ∙ on-no _ _ _ (c .before .before .before .before .read-plan .ensures) _ _ _ _ (c .before .before .verdict .given .1)
 
-pub slotplan-bound-spec : {M : Type 1} → statement M
-slotplan-bound-spec =
+pub bound-spec : {M : Type 1} → statement M
+bound-spec =
     tie.close
     (tie.spec
     read-plan-requires

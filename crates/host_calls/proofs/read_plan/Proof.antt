@@ -2,10 +2,10 @@
 use borrow.Author.Needs.{needs}
 use mathlib.Core.Path.{_∙_}
 use native.Mathlib.Omega.{arith}
-use Rattle.slotplan_lib.specs.Calls.{planReadFrom}
-use Rattle.slotplan_lib.proofs.Laws.Calls.{by-yes, by-no, read-yes, read-no, read-close}
-use Rattle.slotplan_lib.proofs.slotplan_read_plan.Statement.{statement}
-use Rattle.slotplan_lib.proofs.slotplan_read_plan.Tie as tie
+use Rattle.host_calls.specs.Calls.{planReadFrom}
+use Rattle.host_answers.proofs.Laws.Calls.{by-yes, by-no, read-yes, read-no, read-told}
+use Rattle.host_calls.proofs.read_plan.Statement.{statement}
+use Rattle.host_calls.proofs.read_plan.Tie as tie
 
 read-plan-requires : tie.Need-read-plan-requires
 read-plan-requires c κs = search needs
@@ -20,7 +20,7 @@ enum-known-verdict : tie.Need-enum-known-verdict
 enum-known-verdict c = search needs
 
 refusal-requires : tie.Need-refusal-requires
-refusal-requires c κs = read-close _ _ _ (c .before .before .before .read-plan .ensures) (λ i. omega (arith, c .before .before .before .before .shared-slice-known .given i)) _ _ (c .before .verdict .given .1)
+refusal-requires c κs = search needs
 
 returns : tie.Need-returns
 unfolding planReadFrom
@@ -28,10 +28,14 @@ returns c = c .sizes .ensures ∙ by-yes _ _ _ _ (read-yes _ _ _ (c .before .bef
 
 returns-2 : tie.Need-returns-2
 unfolding planReadFrom
-returns-2 c = c .refusal .ensures ∙ by-no _ _ _ _ _ (read-no _ _ _ (c .before .before .before .before .read-plan .ensures) _ _ (c .before .before .verdict .given .1))
+returns-2 c =
+    let read = c .before .before .before .before in
+    let no = c .before .before .verdict .given .1 in
+    read-told _ _ _ (read .read-plan .ensures) (λ i. omega (arith, read .before .shared-slice-known .given i)) _ _ _ no (c .refusal .ensures)
+    ∙ by-no _ _ _ _ _ (read-no _ _ _ (read .read-plan .ensures) _ _ no)
 
-pub slotplan-read-plan-spec : {M : Type 1} → statement M
-slotplan-read-plan-spec =
+pub read-plan-spec : {M : Type 1} → statement M
+read-plan-spec =
     tie.close
     (tie.spec
     read-plan-requires
