@@ -1,5 +1,5 @@
 -- What the proofs of hosts' calls share: what the readers answer, lists of a length, and the site that some plan bytes read to, whose check 14 need not be asked again.
-use Prim.Native.Nat.{ℕ, _≤_, _<_, _^_}
+use Prim.Native.Nat.{ℕ}
 use mathlib.Core.Path.{_≡_, refl}
 use mathlib.Core.Bool.{Bool, true, false, not, cond}
 use mathlib.Core.List.{List}

@@ -37,7 +37,7 @@ unfolding valued
 returns-2 c =
     let judged = c .before .before .before .before in
     let room = number-tellable (judged .before .args .site) (judged .before .args .number) (omega arith) .near _ _
-        (sym (judged .judge-number .ensures) ∙ ap ruling (c .before .before .verdict .given .1)) in
+    (sym (judged .judge-number .ensures) ∙ ap ruling (c .before .before .verdict .given .1)) in
     rw (← judged .judge-number .ensures, c .before .before .verdict .given .1) (told-no _ _ _ (c .refusal .ensures) (room .0) (room .1))
 
 pub bound-of-spec : {M : Type 1} → statement M

@@ -24,7 +24,9 @@ refusal-requires-2 c κs = search needs
 
 returns-2 : tie.Need-returns-2
 unfolding slotFrom
-returns-2 c = rw (told-no _ _ _ (c .refusal2 .ensures) (omega arith) (omega arith)) (off-length _ _ _ _ (c .before .if2 .taken) ∙ of-length _ _ _ _ (c .before .before .if1 .left))
+returns-2 c =
+    rw (told-no _ _ _ (c .refusal2 .ensures) (omega arith) (omega arith))
+    (off-length _ _ _ _ (c .before .if2 .taken) ∙ of-length _ _ _ _ (c .before .before .if1 .left))
 
 read-plan-requires : tie.Need-read-plan-requires
 read-plan-requires c κs = search needs
@@ -54,7 +56,8 @@ returns-3 c =
     let taken = moved .before .before in
     let read = taken .before .before in
     let yes = taken .enum-told .given .1 in
-    let sound = read-standing _ (λ i. omega (arith, read .before .before .before .before .before .shared-slice-known .given i)) _ (read-yes _ _ _ (read .read-plan .ensures) yes) in
+    let small = read .before .before .before .before .before in
+    let sound = read-standing _ (λ i. omega (arith, small .shared-slice-known .given i)) _ (read-yes _ _ _ (read .read-plan .ensures) yes) in
     rw (ap told (c .ruled .ensures) ∙ told-valued _ 0 (advanced-tellable _ _ _ _ _ _ _ (moved .advance .ensures)) (omega arith))
     (ap answered (moved .advance .ensures ∙ sym (slot-advances _ _ _ _ _ sound))
     ∙ on-yes _ _ _ (read .read-plan .ensures) _ _ yes ∙ of-length _ _ _ _ (read .before .if2 .left) ∙ of-length _ _ _ _ (read .before .before .if1 .left))

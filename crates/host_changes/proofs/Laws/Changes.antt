@@ -40,7 +40,8 @@ unfit-most s rate (suc steps) parents n = go (unfit-most s rate steps parents (u
     here above true l = omega arith
     here above false l = omega arith
 
-    go : firstUnfit s rate (climb steps parents (up parents n)) ≤ up parents n → (b : Bool) → ltb (up parents n) n ≡ b → firstUnfit s rate (cond b (n ∷ climb steps parents (up parents n)) []) ≤ n
+    go : firstUnfit s rate (climb steps parents (up parents n)) ≤ up parents n → (b : Bool) → ltb (up parents n) n ≡ b
+        → firstUnfit s rate (cond b (n ∷ climb steps parents (up parents n)) []) ≤ n
     go above true e = here above (unfit s rate n) (ltb-true _ _ e)
     go above false e = omega arith
 
@@ -54,7 +55,6 @@ flow-tellable s f l m =
 
 pub plan-few : (s : Site) → s .links ≤ 63 → length (planBytes s) ≤ 763
 plan-few s l = omega (arith, plan-size s (sizeOf 1) refl _ refl, nodes-few s (sizeOf 1) refl l, flows-few s)
-
 
 -- What is ruled on a site that passes check 14, with 576 counters.
 module _ (s : Site) (sound : passesOf s ≡ true) (cs : List ℕ) (counted : length cs ≡ 576) where

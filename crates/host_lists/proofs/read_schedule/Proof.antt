@@ -21,7 +21,9 @@ refusal-requires-2 c κs = search needs
 
 returns-2 : tie.Need-returns-2
 unfolding scheduleReadFrom
-returns-2 c = rw (told-no _ _ _ (c .refusal2 .ensures) (omega arith) (omega arith)) (off-length _ _ _ _ (c .before .if2 .taken) ∙ of-length _ _ _ _ (c .before .before .if1 .left))
+returns-2 c =
+    rw (told-no _ _ _ (c .refusal2 .ensures) (omega arith) (omega arith))
+    (off-length _ _ _ _ (c .before .if2 .taken) ∙ of-length _ _ _ _ (c .before .before .if1 .left))
 
 read-schedule-requires : tie.Need-read-schedule-requires
 read-schedule-requires c κs = search needs
@@ -57,7 +59,8 @@ unfolding scheduleReadFrom
 returns-4 c =
     let read = c .before .before .before .before in
     let no = c .before .before .verdict .given .1 in
-    rw (schedule-told _ _ _ (read .read-schedule .ensures) (λ i. omega (arith, read .before .before .before .before .before .shared-slice-known .given i)) _ _ _ no (c .refusal3 .ensures))
+    let small = read .before .before .before .before .before in
+    rw (schedule-told _ _ _ (read .read-schedule .ensures) (λ i. omega (arith, small .shared-slice-known .given i)) _ _ _ no (c .refusal3 .ensures))
     (by-no _ _ _ _ _ (schedule-no _ _ _ (read .read-schedule .ensures) _ _ no)
     ∙ of-length _ _ _ _ (read .before .if2 .left) ∙ of-length _ _ _ _ (read .before .before .if1 .left))
 

@@ -23,7 +23,9 @@ refusal-requires-2 c κs = search needs
 
 returns-2 : tie.Need-returns-2
 unfolding scheduleWrittenFrom
-returns-2 c = rw (told-no _ _ _ (c .refusal2 .ensures) (omega arith) (omega arith)) (off-length _ _ _ _ (c .before .if2 .taken) ∙ of-length _ _ _ _ (c .before .before .if1 .left))
+returns-2 c =
+    rw (told-no _ _ _ (c .refusal2 .ensures) (omega arith) (omega arith))
+    (off-length _ _ _ _ (c .before .if2 .taken) ∙ of-length _ _ _ _ (c .before .before .if1 .left))
 
 entries-of-requires : tie.Need-entries-of-requires
 entries-of-requires c κs = search needs
