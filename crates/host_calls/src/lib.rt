@@ -37,7 +37,7 @@ pub fn schedule(plan: &[u8], out: &mut [u8]) -> u64
     let verdict = read.verdict;
     match verdict {
         Verdict::Accepted => scheduled(read.site, out),
-        Verdict::Refused(number, place) => refusal(number, place),
+        Verdict::Refused(fault, place) => refusal(fault, place),
     }
 }
 

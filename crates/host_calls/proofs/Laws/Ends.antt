@@ -20,8 +20,8 @@ use Rattle.moves.specs.Moves.{recounted, advanceOf}
 use Rattle.simulation.specs.Slot.{startOf}
 use Rattle.simulation.proofs.Laws.Answers.{start-passes}
 use Rattle.plan.proofs.Laws.Near.{near-accepted, near-check}
-use Rattle.host_answers.specs.Answers.{valued, Tellable}
-use Rattle.host_answers.proofs.Laws.Told.{tellable, Room, value-room, refusal-room}
+use Rattle.host_answers.specs.Answers.{told, valued, Tellable}
+use Rattle.host_answers.proofs.Laws.Told.{told-value, tellable, Room, value-room, refusal-room}
 use Rattle.host_answers.proofs.Laws.Calls.{unfaulted}
 use Rattle.host_calls.specs.Calls.{answered}
 
@@ -49,7 +49,8 @@ lookup-room s p t = go (ltb (s .links) p)
     go true = refusal-room 6 0 (omega arith) (omega arith)
     go false = value-room (sendingChild s p t) (omega (arith, last-le (childSends s p t) (used (s .links))))
 
-pub stands-started : (s : Site) → passesOf s ≡ true → (cs : List ℕ) → length cs ≡ 576 → (ds : List ℕ) → ds ≡ zeros (length cs)
-    → (accepted 0, ds) ≡ answered (startOf s cs)
+pub stands-started : (s : Site) → passesOf s ≡ true → (cs : List ℕ) → length cs ≡ 576 → (answer : ℕ) → answer ≡ 0
+    → (ds : List ℕ) → ds ≡ zeros (length cs) → (told answer, ds) ≡ answered (startOf s cs)
 unfolding answered valued
-stands-started s sound cs counted ds e = ap answered (start-passes s cs 0 (sym (unfaulted s sound cs counted)) refl ds e counted)
+stands-started s sound cs counted answer z ds e =
+    rw (z, told-value 0 (omega arith)) (ap answered (start-passes s cs 0 (sym (unfaulted s sound cs counted)) refl ds e counted))

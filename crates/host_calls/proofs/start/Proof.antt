@@ -3,7 +3,7 @@ use borrow.Author.Needs.{needs}
 use mathlib.Core.Path.{_∙_}
 use native.Mathlib.Omega.{arith}
 use Rattle.host_calls.specs.Calls.{startFrom}
-use Rattle.host_answers.proofs.Laws.Told.{told-value, told-no}
+use Rattle.host_answers.proofs.Laws.Told.{told-no}
 use Rattle.host_answers.proofs.Laws.Calls.{read-standing, read-yes, on-yes, on-no, of-length, off-length}
 use Rattle.host_calls.proofs.Laws.Ends.{stands-started}
 use Rattle.host_calls.proofs.start.Statement.{statement}
@@ -41,9 +41,8 @@ returns-2 c =
     let read = told .before .before in
     let yes = told .enum-told .given .1 in
     let sound = read-standing _ (λ i. omega (arith, read .before .before .before .shared-slice-known .given i)) _ (read-yes _ _ _ (read .read-plan .ensures) yes) in
-    rw (told-value 0 (omega arith))
-    (stands-started _ sound _ (read .before .if1 .left) _ (c .before .before .clear .ensures)
-    ∙ on-yes _ _ _ (read .read-plan .ensures) _ _ yes ∙ of-length _ _ _ _ (read .before .if1 .left))
+    stands-started _ sound _ (read .before .if1 .left) _ (omega arith) _ (c .before .before .clear .ensures)
+    ∙ on-yes _ _ _ (read .read-plan .ensures) _ _ yes ∙ of-length _ _ _ _ (read .before .if1 .left)
 
 returns-3 : tie.Need-returns-3
 unfolding startFrom

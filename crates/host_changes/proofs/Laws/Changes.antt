@@ -11,12 +11,11 @@ use Rattle.rulings.specs.Outcome.{Outcome, Ruling, accepted, refused, checked, 
 use Rattle.rulings.proofs.Laws.Outcomes.{checked-pass}
 use Rattle.site.specs.declared.Site.{Site}
 use Rattle.site.specs.declared.Flow.{Flow}
-use Rattle.site.specs.Sites.{live, withFlow, withoutFlow}
+use Rattle.site.specs.Sites.{live, withFlow}
 use Rattle.tree.specs.Tree.{up, climb, route}
 use Rattle.reservations.specs.Reservations.{unfit, firstUnfit, periodsJudged, along}
 use Rattle.limits.specs.Limits.{flowLimits}
 use Rattle.site_check.specs.Check.{passesOf, callFault, writtenIf}
-use Rattle.site_check.proofs.Laws.{flow-taken}
 use Rattle.counters.specs.Blocks.{withCells, zeros, cleared}
 use Rattle.format.specs.Commands.{sizeOf}
 use Rattle.plan_writer.specs.Write.{planBytes}
@@ -68,11 +67,9 @@ module _ (s : Site) (sound : passesOf s ≡ true) (cs : List ℕ) (counted : len
       let a = admits-when s cs f .0 (stands-ruled _ ∙ sym e) in
       (omega (arith, a .good .within .number-most), admitted-passes s cs f a)
 
-  pub release-standing : (n : ℕ) → accepted tt ≡ numberRuling s n → (n < 64) × (passesOf (withoutFlow s n) ≡ true)
+  pub release-few : (n : ℕ) → accepted tt ≡ numberRuling s n → n < 64
   unfolding releaseRuling
-  release-standing n e =
-      let a = releases-when s cs n .0 (stands-ruled _ ∙ sym e) in
-      (omega (arith, a .few), flow-taken s sound n)
+  release-few n e = omega (arith, releases-when s cs n .0 (stands-ruled _ ∙ sym e) .few)
 
 -- A change and its new bytes, by its own checks: `q` is what they say, and `r` the ruling of the whole call.
 module _ (s next : Site) (cs new out : List ℕ) (r q : Ruling) (same : r ≡ q) where

@@ -4,8 +4,9 @@ use mathlib.Core.Path.{sym, _∙_, ap}
 use native.Mathlib.Omega.{arith}
 use Rattle.rulings.specs.Outcome.{ruling}
 use Rattle.admission.specs.Calls.{releaseOf, releaseRuling}
+use Rattle.site_check.proofs.Laws.{flow-taken}
 use Rattle.host_answers.proofs.Laws.Told.{told-no, number-tellable}
-use Rattle.host_changes.proofs.Laws.Changes.{stands-ruled, release-standing, change-no, change-yes}
+use Rattle.host_changes.proofs.Laws.Changes.{stands-ruled, release-few, change-no, change-yes}
 use Rattle.host_changes.proofs.released.Statement.{statement}
 use Rattle.host_changes.proofs.released.Tie as tie
 
@@ -23,8 +24,8 @@ rewrite-requires c κs =
     let told = c .before .before .before in
     let start = told .before .before .before .before .before in
     let yes = sym (ap ruling (told .enum-told .given .1)) ∙ told .before .before .judge-number .ensures in
-    let next = release-standing _ (start .pre .0) (start .args .counters .now) (start .pre .1) _ yes in
-    (rw (c .before .before .without-flow .ensures) (next .1), start .pre .1, next .0)
+    let few = release-few _ (start .pre .0) (start .args .counters .now) (start .pre .1) _ yes in
+    (rw (c .before .before .without-flow .ensures) (flow-taken _ (start .pre .0) _), start .pre .1, few)
 
 enum-known-verdict : tie.Need-enum-known-verdict
 enum-known-verdict c = search needs
