@@ -1,28 +1,18 @@
-// The functions for hosts in C and Rust (include/slotplan.h). The state of a site is its plan bytes; each answer is one number of 64 bits.
-mod answers;
-mod changes;
-mod links;
-
-use answers::refusal;
-use rulings::Verdict;
-use schedule_check::Schedule;
-use site::Flow;
+// The functions for hosts in C and Rust (include/slotplan.h). The state of a site is its plan bytes; each answer is one number of 64 bits. The eleven are one
+// subject, the names that a host links, and each is one call, so that what a call does is said and proved once, in the crate of its subject.
 ghost use mathlib.Core.Path.{_≡_};
 ghost use Rattle.pinwheel.specs.Assign.{assigned};
-ghost use Rattle.slotplan_lib.specs.Calls.{told, planReadFrom, scheduleFrom, scheduleReadFrom, scheduleWrittenFrom, admitFrom, releaseFrom, startFrom};
-ghost use Rattle.slotplan_lib.specs.Calls.{slotFrom, senderFrom, boundFrom};
+ghost use Rattle.host_answers.specs.Answers.{told};
+ghost use Rattle.host_calls.specs.Calls.{planReadFrom, scheduleFrom, startFrom, slotFrom, senderFrom, boundFrom};
+ghost use Rattle.host_changes.specs.Changes.{admitFrom, releaseFrom};
+ghost use Rattle.host_lists.specs.Lists.{scheduleReadFrom, scheduleWrittenFrom};
 
 // How many links and flows a plan has.
 #[no_mangle]
 pub extern "C" fn slotplan_read_plan(plan: &[u8]) -> u64
     ensures { λ r. ⌜ told r ≡ planReadFrom (now (plan .entry)) ⌝ }
 {
-    let read = plan_reader::read_plan(plan);
-    let verdict = read.verdict;
-    match verdict {
-        Verdict::Accepted => answers::sizes(read.site),
-        Verdict::Refused(number, place) => refusal(number, place),
-    }
+    host_calls::read_plan(plan)
 }
 
 // The schedule of a plan.
@@ -30,12 +20,7 @@ pub extern "C" fn slotplan_read_plan(plan: &[u8]) -> u64
 pub extern "C" fn slotplan_schedule(plan: &[u8], out: &mut [u8]) -> u64
     ensures { λ r. ⌜ (told r, now (out .exit)) ≡ scheduleFrom (now (plan .entry)) (now (out .entry)) ⌝ }
 {
-    let read = plan_reader::read_plan(plan);
-    let verdict = read.verdict;
-    match verdict {
-        Verdict::Accepted => changes::scheduled(read.site, out),
-        Verdict::Refused(number, place) => refusal(number, place),
-    }
+    host_calls::schedule(plan, out)
 }
 
 // The offsets and periods of a schedule file.
@@ -48,18 +33,7 @@ pub extern "C" fn slotplan_read_schedule(
     ensures { λ r. ⌜ (told r, now (offsets .exit), now (periods .exit))
         ≡ scheduleReadFrom (now (file .entry)) (now (offsets .entry)) (now (periods .entry)) ⌝ }
 {
-    if offsets.len() != 63 {
-        return refusal(1, 0);
-    }
-    if periods.len() != 63 {
-        return refusal(1, 0);
-    }
-    let read = schedule_reader::read_schedule(file);
-    let verdict = read.verdict;
-    match verdict {
-        Verdict::Accepted => links::given(read.schedule, offsets, periods),
-        Verdict::Refused(number, place) => refusal(number, place),
-    }
+    host_lists::read_schedule(file, offsets, periods)
 }
 
 // The file of a schedule.
@@ -73,18 +47,7 @@ pub extern "C" fn slotplan_write_schedule(
     ensures { λ r. ⌜ (told r, now (out .exit))
         ≡ scheduleWrittenFrom links (now (offsets .entry)) (now (periods .entry)) (now (out .entry)) ⌝ }
 {
-    if offsets.len() != 63 {
-        return refusal(1, 0);
-    }
-    if periods.len() != 63 {
-        return refusal(1, 0);
-    }
-    let schedule = Schedule {
-        links,
-        offsets: links::entries_of(offsets),
-        periods: links::entries_of(periods),
-    };
-    answers::size(schedule_writer::write_schedule_of(schedule, out))
+    host_lists::write_schedule(links, offsets, periods, out)
 }
 
 // The plan with a flow more.
@@ -101,23 +64,7 @@ pub extern "C" fn slotplan_admit(
     ensures { λ r. ⌜ (told r, now (counters .exit), now (out .exit))
         ≡ admitFrom (now (plan .entry)) (now (counters .entry)) (record { number = number; entry = entry; rate = rate; deadline = deadline }) (now (out .entry)) ⌝ }
 {
-    if counters.len() != 576 {
-        return refusal(1, 0);
-    }
-    let read = plan_reader::read_plan(plan);
-    let verdict = read.verdict;
-    match verdict {
-        Verdict::Accepted => {
-            let flow = Flow {
-                number,
-                entry,
-                rate,
-                deadline,
-            };
-            changes::admitted(read.site, counters, flow, out)
-        }
-        Verdict::Refused(_number, _place) => refusal(14, 0),
-    }
+    host_changes::admit(plan, counters, number, entry, rate, deadline, out)
 }
 
 // The plan with a flow less.
@@ -131,15 +78,7 @@ pub extern "C" fn slotplan_release(
     ensures { λ r. ⌜ (told r, now (counters .exit), now (out .exit))
         ≡ releaseFrom (now (plan .entry)) (now (counters .entry)) number (now (out .entry)) ⌝ }
 {
-    if counters.len() != 576 {
-        return refusal(1, 0);
-    }
-    let read = plan_reader::read_plan(plan);
-    let verdict = read.verdict;
-    match verdict {
-        Verdict::Accepted => changes::released(read.site, counters, number, out),
-        Verdict::Refused(_number, _place) => refusal(14, 0),
-    }
+    host_changes::release(plan, counters, number, out)
 }
 
 // A rehearsal starts.
@@ -147,18 +86,7 @@ pub extern "C" fn slotplan_release(
 pub extern "C" fn slotplan_start(plan: &[u8], counters: &mut [u32]) -> u64
     ensures { λ r. ⌜ (told r, now (counters .exit)) ≡ startFrom (now (plan .entry)) (now (counters .entry)) ⌝ }
 {
-    if counters.len() != 576 {
-        return refusal(1, 0);
-    }
-    let read = plan_reader::read_plan(plan);
-    let verdict = read.verdict;
-    match verdict {
-        Verdict::Accepted => {
-            counters::clear(counters);
-            0
-        }
-        Verdict::Refused(_number, _place) => refusal(14, 0),
-    }
+    host_calls::start(plan, counters)
 }
 
 // One slot.
@@ -171,18 +99,7 @@ pub extern "C" fn slotplan_slot(
 ) -> u64
     ensures { λ r. ⌜ (told r, now (counters .exit)) ≡ slotFrom (now (plan .entry)) (now (counters .entry)) (now (arrivals .entry)) slot ⌝ }
 {
-    if counters.len() != 576 {
-        return refusal(1, 0);
-    }
-    if arrivals.len() != 64 {
-        return refusal(1, 0);
-    }
-    let read = plan_reader::read_plan(plan);
-    let verdict = read.verdict;
-    match verdict {
-        Verdict::Accepted => answers::ruled(moves::advance(read.site, counters, arrivals, slot)),
-        Verdict::Refused(_number, _place) => refusal(14, 0),
-    }
+    host_calls::slot(plan, counters, arrivals, slot)
 }
 
 // The child that sends.
@@ -190,12 +107,7 @@ pub extern "C" fn slotplan_slot(
 pub extern "C" fn slotplan_sender(plan: &[u8], parent: u8, slot: u32) -> u64
     ensures { λ r. ⌜ told r ≡ senderFrom (now (plan .entry)) parent slot ⌝ }
 {
-    let read = plan_reader::read_plan(plan);
-    let verdict = read.verdict;
-    match verdict {
-        Verdict::Accepted => answers::child(sender::look_up(read.site, parent, slot)),
-        Verdict::Refused(_number, _place) => refusal(14, 0),
-    }
+    host_calls::sender(plan, parent, slot)
 }
 
 // The bound of a flow.
@@ -203,12 +115,7 @@ pub extern "C" fn slotplan_sender(plan: &[u8], parent: u8, slot: u32) -> u64
 pub extern "C" fn slotplan_bound(plan: &[u8], number: u8) -> u64
     ensures { λ r. ⌜ told r ≡ boundFrom (now (plan .entry)) number ⌝ }
 {
-    let read = plan_reader::read_plan(plan);
-    let verdict = read.verdict;
-    match verdict {
-        Verdict::Accepted => answers::bound_of(read.site, number),
-        Verdict::Refused(_number, _place) => refusal(14, 0),
-    }
+    host_calls::bound(plan, number)
 }
 
 // The slot rule alone.
@@ -217,5 +124,5 @@ pub extern "C" fn slotplan_assign(gaps: &[u16], offsets: &mut [u16], periods: &m
     ensures { λ r. ⌜ (told r, now (offsets .exit), now (periods .exit))
         ≡ assigned 2 (now (gaps .entry)) (now (offsets .entry)) (now (periods .entry)) ⌝ }
 {
-    answers::base(pinwheel::assign(gaps, offsets, periods))
+    host_lists::assign(gaps, offsets, periods)
 }

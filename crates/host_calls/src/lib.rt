@@ -1,0 +1,104 @@
+// The calls of a host that read a plan and change none: its sizes, its schedule, the rehearsal, who sends, and the bound of a flow.
+use host_answers::refusal;
+use rulings::Verdict;
+use site::Site;
+ghost use mathlib.Core.Path.{_≡_};
+ghost use mathlib.Core.Bool.{true};
+ghost use Rattle.site_check.specs.Check.{passesOf, writtenIf};
+ghost use Rattle.schedule_writer.specs.Write.{scheduleOf, scheduleBytes};
+ghost use Rattle.host_answers.specs.Answers.{told};
+ghost use Rattle.host_calls.specs.Calls.{planReadFrom, scheduleFrom, startFrom, slotFrom, senderFrom, boundFrom};
+
+// The writer does not ask check 14 again, which is right on a site that passes it: the law `plain-writing` of crate site_check.
+fn scheduled(site: Site, out: &mut [u8]) -> u64
+    requires { ⌜ passesOf site ≡ true ⌝ }
+    ensures { λ r. ⌜ (told r, now (out .exit)) ≡ writtenIf site (scheduleBytes (scheduleOf site)) (now (out .entry)) ⌝ }
+{
+    host_answers::size(schedule_writer::encode_schedule(schedule_writer::schedule_of(site), out))
+}
+
+// How many links and flows a plan has.
+pub fn read_plan(plan: &[u8]) -> u64
+    ensures { λ r. ⌜ told r ≡ planReadFrom (now (plan .entry)) ⌝ }
+{
+    let read = plan_reader::read_plan(plan);
+    let verdict = read.verdict;
+    match verdict {
+        Verdict::Accepted => host_answers::sizes(read.site),
+        Verdict::Refused(number, place) => refusal(number, place),
+    }
+}
+
+// The schedule of a plan.
+pub fn schedule(plan: &[u8], out: &mut [u8]) -> u64
+    ensures { λ r. ⌜ (told r, now (out .exit)) ≡ scheduleFrom (now (plan .entry)) (now (out .entry)) ⌝ }
+{
+    let read = plan_reader::read_plan(plan);
+    let verdict = read.verdict;
+    match verdict {
+        Verdict::Accepted => scheduled(read.site, out),
+        Verdict::Refused(fault, place) => refusal(fault, place),
+    }
+}
+
+// A rehearsal starts.
+pub fn start(plan: &[u8], counters: &mut [u32]) -> u64
+    ensures { λ r. ⌜ (told r, now (counters .exit)) ≡ startFrom (now (plan .entry)) (now (counters .entry)) ⌝ }
+{
+    if counters.len() != 576 {
+        return refusal(1, 0);
+    }
+    let read = plan_reader::read_plan(plan);
+    let verdict = read.verdict;
+    match verdict {
+        Verdict::Accepted => {
+            counters::clear(counters);
+            0
+        }
+        Verdict::Refused(_number, _place) => refusal(14, 0),
+    }
+}
+
+// One slot. Check 14 is not asked again of the site that was read, which passes it: the law `slot-advances` of crate simulation.
+pub fn slot(plan: &[u8], counters: &mut [u32], arrivals: &[u16], number: u32) -> u64
+    ensures { λ r. ⌜ (told r, now (counters .exit)) ≡ slotFrom (now (plan .entry)) (now (counters .entry)) (now (arrivals .entry)) number ⌝ }
+{
+    if counters.len() != 576 {
+        return refusal(1, 0);
+    }
+    if arrivals.len() != 64 {
+        return refusal(1, 0);
+    }
+    let read = plan_reader::read_plan(plan);
+    let verdict = read.verdict;
+    match verdict {
+        Verdict::Accepted => {
+            host_answers::ruled(moves::advance(read.site, counters, arrivals, number))
+        }
+        Verdict::Refused(_number, _place) => refusal(14, 0),
+    }
+}
+
+// The child that sends. Check 14 is not asked again of the site that was read, which passes it: the law `sender-looks` of crate sender.
+pub fn sender(plan: &[u8], parent: u8, slot: u32) -> u64
+    ensures { λ r. ⌜ told r ≡ senderFrom (now (plan .entry)) parent slot ⌝ }
+{
+    let read = plan_reader::read_plan(plan);
+    let verdict = read.verdict;
+    match verdict {
+        Verdict::Accepted => host_answers::child(sender::look_up(read.site, parent, slot)),
+        Verdict::Refused(_number, _place) => refusal(14, 0),
+    }
+}
+
+// The bound of a flow.
+pub fn bound(plan: &[u8], number: u8) -> u64
+    ensures { λ r. ⌜ told r ≡ boundFrom (now (plan .entry)) number ⌝ }
+{
+    let read = plan_reader::read_plan(plan);
+    let verdict = read.verdict;
+    match verdict {
+        Verdict::Accepted => host_answers::bound_of(read.site, number),
+        Verdict::Refused(_number, _place) => refusal(14, 0),
+    }
+}
