@@ -1,4 +1,4 @@
-// The functions for hosts in C and Rust (include/slotplan.h). The state of a site is its plan bytes; each answer is one number of 64 bits. The eleven are one
+// The functions for hosts in C and Rust (include/slotplan_lib.h). The state of a site is its plan bytes; each answer is one number of 64 bits. The eleven are one
 // subject, the names that a host links, and each is one call, so that what a call does is said and proved once, in the crate of its subject.
 ghost use mathlib.Core.Path.{_≡_};
 ghost use Rattle.pinwheel.specs.Assign.{assigned};
@@ -7,7 +7,7 @@ ghost use Rattle.host_calls.specs.Calls.{planReadFrom, scheduleFrom, startFrom,
 ghost use Rattle.host_changes.specs.Changes.{admitFrom, releaseFrom};
 ghost use Rattle.host_lists.specs.Lists.{scheduleReadFrom, scheduleWrittenFrom};
 
-// How many links and flows a plan has.
+// 01: the reader. A host learns by it whether bytes are a plan, and else which check refuses them.
 #[no_mangle]
 pub extern "C" fn slotplan_read_plan(plan: &[u8]) -> u64
     ensures { λ r. ⌜ told r ≡ planReadFrom (now (plan .entry)) ⌝ }
@@ -15,7 +15,7 @@ pub extern "C" fn slotplan_read_plan(plan: &[u8]) -> u64
     host_calls::read_plan(plan)
 }
 
-// The schedule of a plan.
+// 01: the schedule of a plan, as LINK commands.
 #[no_mangle]
 pub extern "C" fn slotplan_schedule(plan: &[u8], out: &mut [u8]) -> u64
     ensures { λ r. ⌜ (told r, now (out .exit)) ≡ scheduleFrom (now (plan .entry)) (now (out .entry)) ⌝ }
@@ -23,7 +23,7 @@ pub extern "C" fn slotplan_schedule(plan: &[u8], out: &mut [u8]) -> u64
     host_calls::schedule(plan, out)
 }
 
-// The offsets and periods of a schedule file.
+// 02, U1: a schedule file by itself, with no plan to judge it by.
 #[no_mangle]
 pub extern "C" fn slotplan_read_schedule(
     file: &[u8],
@@ -36,7 +36,7 @@ pub extern "C" fn slotplan_read_schedule(
     host_lists::read_schedule(file, offsets, periods)
 }
 
-// The file of a schedule.
+// 02, U1: the way back, with the check 14 of a schedule.
 #[no_mangle]
 pub extern "C" fn slotplan_write_schedule(
     links: u8,
@@ -50,7 +50,7 @@ pub extern "C" fn slotplan_write_schedule(
     host_lists::write_schedule(links, offsets, periods, out)
 }
 
-// The plan with a flow more.
+// 01: an admission on plan bytes, so that what it writes is the live site.
 #[no_mangle]
 pub extern "C" fn slotplan_admit(
     plan: &[u8],
@@ -67,7 +67,7 @@ pub extern "C" fn slotplan_admit(
     host_changes::admit(plan, counters, number, entry, rate, deadline, out)
 }
 
-// The plan with a flow less.
+// 01: a release on plan bytes, likewise.
 #[no_mangle]
 pub extern "C" fn slotplan_release(
     plan: &[u8],
@@ -81,7 +81,7 @@ pub extern "C" fn slotplan_release(
     host_changes::release(plan, counters, number, out)
 }
 
-// A rehearsal starts.
+// 01: a start asks check 14 before it clears anything, so it takes the plan too.
 #[no_mangle]
 pub extern "C" fn slotplan_start(plan: &[u8], counters: &mut [u32]) -> u64
     ensures { λ r. ⌜ (told r, now (counters .exit)) ≡ startFrom (now (plan .entry)) (now (counters .entry)) ⌝ }
@@ -89,7 +89,7 @@ pub extern "C" fn slotplan_start(plan: &[u8], counters: &mut [u32]) -> u64
     host_calls::start(plan, counters)
 }
 
-// One slot.
+// 01: one slot. The bytes are all that a host keeps of a site, so check 14 is asked in each.
 #[no_mangle]
 pub extern "C" fn slotplan_slot(
     plan: &[u8],
@@ -102,7 +102,7 @@ pub extern "C" fn slotplan_slot(
     host_calls::slot(plan, counters, arrivals, slot)
 }
 
-// The child that sends.
+// 01: the lookup of parent and slot.
 #[no_mangle]
 pub extern "C" fn slotplan_sender(plan: &[u8], parent: u8, slot: u32) -> u64
     ensures { λ r. ⌜ told r ≡ senderFrom (now (plan .entry)) parent slot ⌝ }
@@ -110,7 +110,7 @@ pub extern "C" fn slotplan_sender(plan: &[u8], parent: u8, slot: u32) -> u64
     host_calls::sender(plan, parent, slot)
 }
 
-// The bound of a flow.
+// G, which a report prints beside the deadline, for hosts that print nothing.
 #[no_mangle]
 pub extern "C" fn slotplan_bound(plan: &[u8], number: u8) -> u64
     ensures { λ r. ⌜ told r ≡ boundFrom (now (plan .entry)) number ⌝ }
@@ -118,7 +118,7 @@ pub extern "C" fn slotplan_bound(plan: &[u8], number: u8) -> u64
     host_calls::bound(plan, number)
 }
 
-// The slot rule alone.
+// 01: the slot rule is usable without plans, bytes or flows.
 #[no_mangle]
 pub extern "C" fn slotplan_assign(gaps: &[u16], offsets: &mut [u16], periods: &mut [u16]) -> u64
     ensures { λ r. ⌜ (told r, now (offsets .exit), now (periods .exit))
