@@ -10,7 +10,7 @@ front : (c : tie.Joined1) → Front (c .before .before .before .args .size) (c .
 front c = elim (c .if1 .came) [ inl w ↦ front-all _ _ _ (omega arith) (omega arith) | inr w ↦ front-part _ _ _ (omega arith) (omega arith) ]
 
 returns : tie.Need-returns
-returns c = short-written _ _ _ _ (front (c .before)) (c .if2 .taken)
+returns c = short-written _ _ _ _ (front (c .before)) (omega arith)
 
 sub-put : tie.Need-sub-put
 sub-put c = search needs
