@@ -12,7 +12,7 @@ use Rattle.slices.specs.Written.{written}
 use Rattle.slices.specs.Put.{put}
 use Rattle.text.specs.Put.{puts, textOf}
 use Rattle.slices.proofs.Laws.Put.{put-room}
-use Rattle.text.proofs.Laws.Put.{puts-front, puts-long}
+use Rattle.text.proofs.Laws.Put.{puts-front}
 
 -- The first `size` bytes of a text are its first `front`, and it has so many.
 pub record Front (size front : ℕ) (text : List ℕ) : Type 0 where
@@ -43,22 +43,11 @@ module _ (size front : ℕ) (text out : List ℕ) (f : Front size front text) wh
       ap (λ (s : ℕ × List ℕ). s .1) e ∙ rw same (ap (λ (s : ℕ × List ℕ). s .1) (put-room 0 out (take size text) (omega (arith, long))) ∙ rw (zero-add)) in
       rw (long, le-ltb _ _ m) (ap (λ (o : List ℕ). (accepted front, o)) (is ∙ rw long))
 
--- Pieces that make a text of at most 8,192 bytes, put into a space of that length.
-module _ (space text : List ℕ) (size : ℕ) (ps : List (List ℕ)) (made : (size, text) ≡ puts (0, space) ps)
-    (whole : List ℕ) (is : textOf ps ≡ whole) (short : length whole ≤ 8192) (long : length space ≡ 8192) where
-  fits : length (textOf ps) ≤ length space
-  fits = omega (arith, ap length is)
-
-  is-size : size ≡ length (textOf ps)
-  is-size = ap (λ (s : ℕ × List ℕ). s .0) made ∙ puts-front 0 space ps (omega (arith, fits)) .0 ∙ rw zero-add
-
-  -- All of them had room.
-  pub deliver-size : size ≤ length text
-  deliver-size = omega (arith, fits, is-size, ap (λ (s : ℕ × List ℕ). length (s .1)) made ∙ puts-long (0, space) ps)
-
-  is-text : take size text ≡ whole
-  is-text = rw (is-size, ap (λ (s : ℕ × List ℕ). s .1) made) (rw zero-add at (puts-front 0 space ps (omega (arith, fits)) .1) ∙ is)
-
-  -- What is handed on is the text.
-  pub delivered : (out : List ℕ) (x : Outcome ℕ × List ℕ) → x ≡ written (take size text) out → x ≡ written whole out
-  delivered out x e = e ∙ rw is-text
+-- Pieces that make a text of at most 8,192 bytes, put into a space of that length: all of them have room there, and what is handed on is their text.
+pub lines-written : (space text out : List ℕ) (size : ℕ) (ps : List (List ℕ)) → (size, text) ≡ puts (0, space) ps → length (textOf ps) ≤ 8192
+    → length space ≡ 8192 → (x : Outcome ℕ × List ℕ) → x ≡ written (take size text) out → x ≡ written (textOf ps) out
+lines-written space text out size ps made short long x e =
+    let front = puts-front 0 space ps (omega arith) in
+    let is : take size text ≡ textOf ps =
+    rw (ap (λ (s : ℕ × List ℕ). s .0) made ∙ front .0 ∙ zero-add _, ap (λ (s : ℕ × List ℕ). s .1) made) (rw zero-add at (front .1)) in
+    e ∙ rw is
