@@ -50,8 +50,8 @@ returns-3 c =
     ∙ asked-slot _ _ _ (sym (c .before .before .before .before .before .before .before .before .remark .ensures) ∙ c .before .before .before .before .before .before .before .if1 .left)
     (c .before .before .before .before .before .before .next-word .ensures) (c .before .before .before .before .before .if2 .left) (sym (c .before .before .same .ensures) ∙ c .before .if3 .taken)
 
-other-line-requires : tie.Need-other-line-requires
-other-line-requires c κs = search needs
+read-request-requires : tie.Need-read-request-requires
+read-request-requires c κs = search needs
 
 without-arrivals-requires-3 : tie.Need-without-arrivals-requires-3
 without-arrivals-requires-3 c κs = search needs
@@ -59,7 +59,7 @@ without-arrivals-requires-3 c κs = search needs
 returns-4 : tie.Need-returns-4
 returns-4 c =
     c .without-arrivals3 .ensures
-    ∙ ap alone (c .before .other-line .ensures)
+    ∙ ap alone (c .before .read-request .ensures)
     ∙ asked-other _ _ _ (sym (c .before .before .before .before .before .before .before .before .before .remark .ensures) ∙ c .before .before .before .before .before .before .before .before .if1 .left)
     (c .before .before .before .before .before .before .before .next-word .ensures) (c .before .before .before .before .before .before .if2 .left) (sym (c .before .before .before .same .ensures) ∙ c .before .before .if3 .left)
 
@@ -80,6 +80,6 @@ read-line-spec =
     same-requires
     slot-line-requires
     returns-3
-    other-line-requires
+    read-request-requires
     without-arrivals-requires-3
     returns-4)

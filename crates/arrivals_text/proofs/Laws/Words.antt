@@ -13,8 +13,8 @@ use Rattle.line_words.specs.Words.{wordsOf, none, NextWord}
 use Rattle.line_words.proofs.Laws.Parts.{before-reached}
 use Rattle.line_words.proofs.Laws.Words.{no-words, word-begins, first-word}
 use Rattle.line_words.proofs.Laws.Numbers.{number-small}
-use Rattle.call_text.specs.Lines.{flowPart, countPart, isNew, putCount, putName, countsOf, arrivalsOf}
-use Rattle.call_text.specs.Inner.{takenOf}
+use Rattle.arrivals_text.specs.Counts.{flowPart, countPart, isNew, putCount, putName, countsOf, arrivalsOf}
+use Rattle.arrivals_text.specs.Inner.{takenOf}
 
 -- What the reading of a number tells.
 abbrev Number : List ℕ → ℕ → Bool → ℕ → Type 0

@@ -1,9 +1,9 @@
 -- Right because the first `=` parts N from K, and both are stored only where both are numbers and N is not named yet.
 use borrow.Author.Needs.{needs}
 use native.Mathlib.Omega.{arith}
-use Rattle.call_text.proofs.Laws.Arrivals.{number-most, flow-read, count-read, taken-unsigned, taken-no-flow, taken-no-count, taken-again, taken-first}
-use Rattle.call_text.proofs.take_arrivals.Statement.{statement}
-use Rattle.call_text.proofs.take_arrivals.Tie as tie
+use Rattle.arrivals_text.proofs.Laws.Words.{number-most, flow-read, count-read, taken-unsigned, taken-no-flow, taken-no-count, taken-again, taken-first}
+use Rattle.arrivals_text.proofs.take_arrivals.Statement.{statement}
+use Rattle.arrivals_text.proofs.take_arrivals.Tie as tie
 
 find-requires : tie.Need-find-requires
 find-requires c κs = search needs

@@ -1,9 +1,9 @@
 -- Right because the names are tried in the order of the definition.
 use borrow.Author.Needs.{needs}
 use mathlib.Core.Path.{sym, _∙_}
-use Rattle.call_text.specs.Lines.{otherOf}
-use Rattle.call_text.proofs.other_line.Statement.{statement}
-use Rattle.call_text.proofs.other_line.Tie as tie
+use Rattle.request_text.specs.Requests.{otherOf}
+use Rattle.request_text.proofs.read_request.Statement.{statement}
+use Rattle.request_text.proofs.read_request.Tie as tie
 
 blank-requires : tie.Need-blank-requires
 blank-requires c κs = search needs
@@ -78,8 +78,8 @@ returns-5 c =
       sym (c .before .before .same3 .ensures) ∙ c .before .if4 .left,
     ) (c .flow-line .ensures)
 
-pub other-line-spec : {M : Type 1} → statement M
-other-line-spec =
+pub read-request-spec : {M : Type 1} → statement M
+read-request-spec =
     tie.close
     (tie.spec
     blank-requires

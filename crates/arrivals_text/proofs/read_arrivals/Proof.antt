@@ -6,9 +6,9 @@ use borrow.Author.Tests.{not-true, not-false}
 use lib.ListN.{length}
 use native.Mathlib.Omega.{arith}
 use Rattle.line_words.proofs.Laws.Words.{word-begins}
-use Rattle.call_text.proofs.Laws.Arrivals.{Reading, reading-start, reading-end, reading-stopped, reading-more}
-use Rattle.call_text.proofs.read_arrivals.Statement.{statement}
-use Rattle.call_text.proofs.read_arrivals.Tie as tie
+use Rattle.arrivals_text.proofs.Laws.Words.{Reading, reading-start, reading-end, reading-stopped, reading-more}
+use Rattle.arrivals_text.proofs.read_arrivals.Statement.{statement}
+use Rattle.arrivals_text.proofs.read_arrivals.Tie as tie
 
 abbrev Inv-loop : tie.InvT-loop
 Inv-loop line from counts₀ named₀ at₀ counts named at = Reading line from at counts named

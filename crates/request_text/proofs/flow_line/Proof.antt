@@ -1,9 +1,9 @@
 -- Right because the operand is the first of the words and ends the line, and the two names are tried in the order of the definition.
 use borrow.Author.Needs.{needs}
 use mathlib.Core.Path.{sym, _∙_}
-use Rattle.call_text.proofs.Laws.Operands.{said-last, flow-malformed, cells-asked, bound-asked, neither-asked}
-use Rattle.call_text.proofs.flow_line.Statement.{statement}
-use Rattle.call_text.proofs.flow_line.Tie as tie
+use Rattle.request_text.proofs.Laws.Operands.{said-last, flow-malformed, cells-asked, bound-asked, neither-asked}
+use Rattle.request_text.proofs.flow_line.Statement.{statement}
+use Rattle.request_text.proofs.flow_line.Tie as tie
 
 next-operand-requires : tie.Need-next-operand-requires
 next-operand-requires c κs = search needs

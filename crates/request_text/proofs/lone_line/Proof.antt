@@ -1,9 +1,9 @@
 -- Right because the five names are tried in the order of the definition.
 use borrow.Author.Needs.{needs}
 use mathlib.Core.Path.{sym, _∙_}
-use Rattle.call_text.specs.Lines.{loneOf}
-use Rattle.call_text.proofs.lone_line.Statement.{statement}
-use Rattle.call_text.proofs.lone_line.Tie as tie
+use Rattle.request_text.specs.Requests.{loneOf}
+use Rattle.request_text.proofs.lone_line.Statement.{statement}
+use Rattle.request_text.proofs.lone_line.Tie as tie
 
 slice-aggregate-same : tie.Need-slice-aggregate-same
 slice-aggregate-same c = search needs

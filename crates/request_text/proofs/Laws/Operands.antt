@@ -10,10 +10,10 @@ use Rattle.text.specs.Decimal.{valueOf, isNumber}
 use Rattle.line_words.specs.Words.{none, operandOf, said}
 use Rattle.lists.specs.Lists.{same}
 use Rattle.text.specs.Letters.{letters}
-use Rattle.call_text.specs.declared.Call.the-variants.{Admit, Release}
-use Rattle.call_text.specs.declared.Question.the-variants.{Sender, Cells, Bound}
-use Rattle.call_text.specs.declared.Line.the-variants.{Makes, Asks, Malformed}
-use Rattle.call_text.specs.Lines.{numbers, admitLine, releaseLine, senderLine, flowQuestion}
+use Rattle.request_text.specs.declared.Call.the-variants.{Admit, Release}
+use Rattle.request_text.specs.declared.Question.the-variants.{Sender, Cells, Bound}
+use Rattle.request_text.specs.declared.Line.the-variants.{Makes, Asks, Malformed}
+use Rattle.request_text.specs.Requests.{numbers, admitLine, releaseLine, senderLine, flowQuestion}
 
 -- The words are numbers within these limits just when b is true, and then they say `values`.
 pub record Said (limits : List ℕ) (words : List (List ℕ)) (b : Bool) (values : List ℕ) : Type 0 where

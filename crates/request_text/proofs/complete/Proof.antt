@@ -1,8 +1,8 @@
 -- Right because `blank` tells whether a word is left behind a given operand.
 use borrow.Author.Needs.{needs}
 use borrow.Author.Tests.{not-true, not-false}
-use Rattle.call_text.proofs.complete.Statement.{statement}
-use Rattle.call_text.proofs.complete.Tie as tie
+use Rattle.request_text.proofs.complete.Statement.{statement}
+use Rattle.request_text.proofs.complete.Tie as tie
 
 returns : tie.Need-returns
 returns c = rw (not-true (c .before .before .before .args .last .given) (c .if1 .taken))

@@ -1,8 +1,8 @@
 -- Right because the operand is the first of the words and ends the line.
 use borrow.Author.Needs.{needs}
-use Rattle.call_text.proofs.Laws.Operands.{said-last, release-malformed, release-made}
-use Rattle.call_text.proofs.release_line.Statement.{statement}
-use Rattle.call_text.proofs.release_line.Tie as tie
+use Rattle.request_text.proofs.Laws.Operands.{said-last, release-malformed, release-made}
+use Rattle.request_text.proofs.release_line.Statement.{statement}
+use Rattle.request_text.proofs.release_line.Tie as tie
 
 next-operand-requires : tie.Need-next-operand-requires
 next-operand-requires c κs = search needs

@@ -2,7 +2,7 @@
 use Prim.Native.Nat.{ℕ}
 use mathlib.Core.Bool.{Bool, true, false, cond}
 use mathlib.Core.List.{List}
-use Rattle.call_text.specs.Lines.{isNew, putCount, putName}
+use Rattle.arrivals_text.specs.Counts.{isNew, putCount, putName}
 
 -- Whether a word N=K could be put in, and the packets and the named flows then.
 unfoldable pub takenOf : List ℕ → List ℕ → List Bool → Bool × List ℕ × List Bool

@@ -1,8 +1,8 @@
 -- Right because each operand is the next of the words, and the last ends the line.
 use borrow.Author.Needs.{needs}
-use Rattle.call_text.proofs.Laws.Operands.{said-last, said-then, admit-malformed, admit-made}
-use Rattle.call_text.proofs.admit_line.Statement.{statement}
-use Rattle.call_text.proofs.admit_line.Tie as tie
+use Rattle.request_text.proofs.Laws.Operands.{said-last, said-then, admit-malformed, admit-made}
+use Rattle.request_text.proofs.admit_line.Statement.{statement}
+use Rattle.request_text.proofs.admit_line.Tie as tie
 
 next-operand-requires : tie.Need-next-operand-requires
 next-operand-requires c κs = search needs
