@@ -77,7 +77,8 @@ module _ (all : List ℕ) where
   unfolding putCount putName
   counted [] counts named c m e i l = absurd (omega arith)
   counted (word ∷ words) counts named c m e i l =
-      go (first-taken word counts all words named e) (counted words (putCount word counts) (putName word named) (length-set counts _ _ ∙ c) (length-set named _ _ ∙ m)) i l
+      go (first-taken word counts all words named e)
+      (counted words (putCount word counts) (putName word named) (length-set counts _ _ ∙ c) (length-set named _ _ ∙ m)) i l
     where
       go : (isNew word named ≡ true) × Given words (putCount word counts) (putName word named) all
           → (Given words (putCount word counts) (putName word named) all

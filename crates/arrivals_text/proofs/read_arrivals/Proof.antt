@@ -45,19 +45,22 @@ take-arrivals-requires c κs = search needs
 
 returns : tie.Need-returns Inv-loop μ-loop
 returns c =
-    reading-stopped _ _ _ _ _ (c .before .before .before .before .before .before .before .before .before .before .loop .inv) _ _ (c .before .before .before .before .before .before .before .next-word .ensures)
-    (sym (c .before .before .before .before .before .before .before .before .before .blank .ensures) ∙ not-true _ (c .before .before .before .before .before .before .before .before .if1 .taken)) _ _ _
+    let word = c .before .before .before .before .before .before .before in
+    let asked = word .before .before in
+    reading-stopped _ _ _ _ _ (asked .before .loop .inv) _ _ (word .next-word .ensures) (sym (asked .blank .ensures) ∙ not-true _ (word .before .if1 .taken)) _ _ _
     (c .before .before .before .take-arrivals .ensures) (c .if2 .taken)
 
 loop-less : tie.Need-loop-less Inv-loop μ-loop
 loop-less c =
-    let w = c .before .before .before .before .before .before .before .next-word .ensures in
-    omega (arith, word-begins _ _ _ _ w (sym (c .before .before .before .before .before .before .before .before .before .blank .ensures) ∙ not-true _ (c .before .before .before .before .before .before .before .before .if1 .taken)), w .onward, w .within)
+    let word = c .before .before .before .before .before .before .before in
+    let w = word .next-word .ensures in
+    omega (arith, word-begins _ _ _ _ w (sym (word .before .before .blank .ensures) ∙ not-true _ (word .before .if1 .taken)), w .onward, w .within)
 
 loop-again : tie.Need-loop-again Inv-loop μ-loop
 loop-again c =
-    reading-more _ _ _ _ _ (c .before .before .before .before .before .before .before .before .before .before .loop .inv) _ _ (c .before .before .before .before .before .before .before .next-word .ensures)
-    (sym (c .before .before .before .before .before .before .before .before .before .blank .ensures) ∙ not-true _ (c .before .before .before .before .before .before .before .before .if1 .taken)) _ _ _
+    let word = c .before .before .before .before .before .before .before in
+    let asked = word .before .before in
+    reading-more _ _ _ _ _ (asked .before .loop .inv) _ _ (word .next-word .ensures) (sym (asked .blank .ensures) ∙ not-true _ (word .before .if1 .taken)) _ _ _
     (c .before .before .before .take-arrivals .ensures) (c .if2 .left)
 
 returns-2 : tie.Need-returns-2 Inv-loop μ-loop

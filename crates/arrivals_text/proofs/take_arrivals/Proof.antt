@@ -39,36 +39,52 @@ read-number-requires-2 : tie.Need-read-number-requires-2
 read-number-requires-2 c κs = search needs
 
 returns-2 : tie.Need-returns-2
-returns-2 c = taken-no-flow _ _ _ _ _ (flow-read _ _ (c .before .before .before .before .before .before .before .find .ensures) _ _ (c .before .before .before .before .read-number .ensures)) (c .if2 .taken)
+returns-2 c =
+    let read = c .before .before .before .before in
+    taken-no-flow _ _ _ _ _ (flow-read _ _ (read .before .before .before .find .ensures) _ _ (read .read-number .ensures)) (c .if2 .taken)
 
 returns-3 : tie.Need-returns-3
 returns-3 c =
-    taken-no-count _ _ _ _ _ (flow-read _ _ (c .before .before .before .before .before .before .before .before .before .find .ensures) _ _ (c .before .before .before .before .before .before .read-number .ensures)) _ _
-    (count-read _ _ (c .before .before .before .before .before .before .before .before .before .find .ensures) _ _ (c .before .before .before .before .read-number2 .ensures)) (c .if3 .taken)
+    let counted = c .before .before .before .before in
+    let read = counted .before .before in
+    let found = read .before .before .before in
+    taken-no-count _ _ _ _ _ (flow-read _ _ (found .find .ensures) _ _ (read .read-number .ensures)) _ _
+    (count-read _ _ (found .find .ensures) _ _ (counted .read-number2 .ensures)) (c .if3 .taken)
 
 cast-n : tie.Need-cast-n
 cast-n c = search needs
 
 slice-read-if4 : tie.Need-slice-read-if4
-slice-read-if4 c = omega (arith, number-most _ _ _ _ (c .before .before .before .before .before .before .before .before .read-number .ensures) (c .before .before .before .before .if2 .left))
+slice-read-if4 c =
+    let told = c .before .before .before .before in
+    omega (arith, number-most _ _ _ _ (told .before .before .before .before .read-number .ensures) (told .if2 .left))
 
 returns-4 : tie.Need-returns-4
 returns-4 c =
-    taken-again _ _ _ _ _ (flow-read _ _ (c .before .before .before .before .before .before .before .before .before .before .before .before .find .ensures) _ _ (c .before .before .before .before .before .before .before .before .before .read-number .ensures)) _ _
-    (count-read _ _ (c .before .before .before .before .before .before .before .before .before .before .before .before .find .ensures) _ _ (c .before .before .before .before .before .before .before .read-number2 .ensures))
-    (c .before .before .before .before .before .if2 .left) (c .before .before .before .if3 .left) (c .if4 .taken)
+    let told = c .before .before .before in
+    let counted = told .before .before .before .before in
+    let read = counted .before .before in
+    let found = read .before .before .before in
+    taken-again _ _ _ _ _ (flow-read _ _ (found .find .ensures) _ _ (read .read-number .ensures)) _ _
+    (count-read _ _ (found .find .ensures) _ _ (counted .read-number2 .ensures)) (told .before .before .if2 .left) (told .if3 .left) (c .if4 .taken)
 
 slice-write-named : tie.Need-slice-write-named
-slice-write-named c = omega (arith, number-most _ _ _ _ (c .before .before .before .before .before .before .before .before .before .read-number .ensures) (c .before .before .before .before .before .if2 .left))
+slice-write-named c =
+    let told = c .before .before .before .before .before in
+    omega (arith, number-most _ _ _ _ (told .before .before .before .before .read-number .ensures) (told .if2 .left))
 
 cast-counts : tie.Need-cast-counts
-cast-counts c = omega (arith, number-most _ _ _ _ (c .before .before .before .before .before .before .before .before .read-number2 .ensures) (c .before .before .before .before .if3 .left))
+cast-counts c =
+    let told = c .before .before .before .before in
+    omega (arith, number-most _ _ _ _ (told .before .before .before .before .read-number2 .ensures) (told .if3 .left))
 
 mul-counts : tie.Need-mul-counts
 mul-counts c = search needs
 
 slice-write-counts : tie.Need-slice-write-counts
-slice-write-counts c = omega (arith, number-most _ _ _ _ (c .before .before .before .before .before .before .before .before .before .before .read-number .ensures) (c .before .before .before .before .before .before .if2 .left))
+slice-write-counts c =
+    let told = c .before .before .before .before .before .before in
+    omega (arith, number-most _ _ _ _ (told .before .before .before .before .read-number .ensures) (told .if2 .left))
 
 same-length : tie.Need-same-length
 same-length c = search needs
@@ -78,9 +94,12 @@ same-length-2 c = search needs
 
 returns-5 : tie.Need-returns-5
 returns-5 c =
-    taken-first _ _ _ _ _ (flow-read _ _ (c .before .before .before .before .before .before .before .before .before .before .before .before .before .find .ensures) _ _ (c .before .before .before .before .before .before .before .before .before .before .read-number .ensures)) _ _
-    (count-read _ _ (c .before .before .before .before .before .before .before .before .before .before .before .before .before .find .ensures) _ _ (c .before .before .before .before .before .before .before .before .read-number2 .ensures))
-    (c .before .before .before .before .before .before .if2 .left) (c .before .before .before .before .if3 .left) (c .before .if4 .left)
+    let told = c .before .before .before .before in
+    let counted = told .before .before .before .before in
+    let read = counted .before .before in
+    let found = read .before .before .before in
+    taken-first _ _ _ _ _ (flow-read _ _ (found .find .ensures) _ _ (read .read-number .ensures)) _ _
+    (count-read _ _ (found .find .ensures) _ _ (counted .read-number2 .ensures)) (told .before .before .if2 .left) (told .if3 .left) (c .before .if4 .left)
 
 pub take-arrivals-spec : {M : Type 1} → statement M
 take-arrivals-spec =

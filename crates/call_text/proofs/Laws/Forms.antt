@@ -42,7 +42,16 @@ pub admit-line : (line : List ℕ) (number entry rate deadline : ℕ) → number
 unfolding requestOf otherOf admitLine same none numbers said
 admit-line line number entry rate deadline n e r d ws =
     by-words line _ _ ws (λ q. absurd (omega arith))
-    ∙ rw (decimal-number number 255 n, decimal-number entry 255 e, decimal-number rate 255 r, decimal-number deadline 65535 d, decimal-value number, decimal-value entry, decimal-value rate, decimal-value deadline)
+    ∙ rw (
+      decimal-number number 255 n,
+      decimal-number entry 255 e,
+      decimal-number rate 255 r,
+      decimal-number deadline 65535 d,
+      decimal-value number,
+      decimal-value entry,
+      decimal-value rate,
+      decimal-value deadline,
+    )
 
 -- So does such a line as it is typed, with one space before each number.
 pub admit-typed : (number entry rate deadline : ℕ) → number ≤ 255 → entry ≤ 255 → rate ≤ 255 → deadline ≤ 65535

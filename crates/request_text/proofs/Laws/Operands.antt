@@ -41,7 +41,8 @@ module _ (most : ℕ) (g : Bool) (v : ℕ) (rest : List (List ℕ)) where
   first-then [] e next limits = sym (ap (λ (x : Read). numbers (next ∷ limits) (x .2)) e)
   first-then (word ∷ words) e next limits = go (isNumber word most) e
     where
-      go : (t : Bool) → _≡_ {A = Read} (g, v, rest) (cond t (true, valueOf word, words) (false, 0, [])) → (t && numbers (next ∷ limits) words) ≡ numbers (next ∷ limits) rest
+      go : (t : Bool) → _≡_ {A = Read} (g, v, rest) (cond t (true, valueOf word, words) (false, 0, []))
+          → (t && numbers (next ∷ limits) words) ≡ numbers (next ∷ limits) rest
       go true e = sym (ap (λ (x : Read). numbers (next ∷ limits) (x .2)) e)
       go false e = sym (ap (λ (x : Read). numbers (next ∷ limits) (x .2)) e)
 

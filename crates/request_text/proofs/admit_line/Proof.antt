@@ -42,12 +42,13 @@ cast-t12 c = search needs
 
 returns-2 : tie.Need-returns-2
 returns-2 c =
+    let told = c .before .before .before .before in
     admit-made _ _ _ _ _ _
-    (said-then _ _ _ _ _ (c .before .before .before .before .before .before .before .before .before .next-operand .ensures .0) _ _ _ _
-    (said-then _ _ _ _ _ (c .before .before .before .before .before .before .before .before .next-operand2 .ensures .0) _ _ _ _
-    (said-then _ _ _ _ _ (c .before .before .before .before .before .before .before .next-operand3 .ensures .0) _ _ _ _
-    (said-last _ _ _ _ _ (c .before .before .before .before .before .before .next-operand4 .ensures .0) _ (c .before .before .before .before .before .complete .ensures)))))
-    (c .before .before .before .before .if1 .left)
+    (said-then _ _ _ _ _ (told .before .before .before .before .before .next-operand .ensures .0) _ _ _ _
+    (said-then _ _ _ _ _ (told .before .before .before .before .next-operand2 .ensures .0) _ _ _ _
+    (said-then _ _ _ _ _ (told .before .before .before .next-operand3 .ensures .0) _ _ _ _
+    (said-last _ _ _ _ _ (told .before .before .next-operand4 .ensures .0) _ (told .before .complete .ensures)))))
+    (told .if1 .left)
 
 pub admit-line-spec : {M : Type 1} → statement M
 admit-line-spec =

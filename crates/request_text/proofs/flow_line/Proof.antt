@@ -25,8 +25,9 @@ same-requires c κs = search needs
 
 returns-2 : tie.Need-returns-2
 returns-2 c =
-    cells-asked _ _ _ _ (said-last _ _ _ _ _ (c .before .before .before .before .before .before .next-operand .ensures .0) _ (c .before .before .before .before .before .complete .ensures))
-    (c .before .before .before .before .if1 .left) (sym (c .before .same .ensures) ∙ c .if2 .taken)
+    let told = c .before .before .before .before in
+    cells-asked _ _ _ _ (said-last _ _ _ _ _ (told .before .before .next-operand .ensures .0) _ (told .before .complete .ensures)) (told .if1 .left)
+    (sym (c .before .same .ensures) ∙ c .if2 .taken)
 
 slice-aggregate-same-2 : tie.Need-slice-aggregate-same-2
 slice-aggregate-same-2 c = search needs
@@ -36,13 +37,17 @@ same-requires-2 c κs = search needs
 
 returns-3 : tie.Need-returns-3
 returns-3 c =
-    bound-asked _ _ _ _ (said-last _ _ _ _ _ (c .before .before .before .before .before .before .before .before .before .next-operand .ensures .0) _ (c .before .before .before .before .before .before .before .before .complete .ensures))
-    (c .before .before .before .before .before .before .before .if1 .left) (sym (c .before .before .before .before .same .ensures) ∙ c .before .before .before .if2 .left) (sym (c .before .same2 .ensures) ∙ c .if3 .taken)
+    let cells = c .before .before .before in
+    let told = cells .before .before .before .before in
+    bound-asked _ _ _ _ (said-last _ _ _ _ _ (told .before .before .next-operand .ensures .0) _ (told .before .complete .ensures)) (told .if1 .left)
+    (sym (cells .before .same .ensures) ∙ cells .if2 .left) (sym (c .before .same2 .ensures) ∙ c .if3 .taken)
 
 returns-4 : tie.Need-returns-4
 returns-4 c =
-    neither-asked _ _ _ _ (said-last _ _ _ _ _ (c .before .before .before .before .before .before .before .before .before .next-operand .ensures .0) _ (c .before .before .before .before .before .before .before .before .complete .ensures))
-    (c .before .before .before .before .before .before .before .if1 .left) (sym (c .before .before .before .before .same .ensures) ∙ c .before .before .before .if2 .left) (sym (c .before .same2 .ensures) ∙ c .if3 .left)
+    let cells = c .before .before .before in
+    let told = cells .before .before .before .before in
+    neither-asked _ _ _ _ (said-last _ _ _ _ _ (told .before .before .next-operand .ensures .0) _ (told .before .complete .ensures)) (told .if1 .left)
+    (sym (cells .before .same .ensures) ∙ cells .if2 .left) (sym (c .before .same2 .ensures) ∙ c .if3 .left)
 
 pub flow-line-spec : {M : Type 1} → statement M
 flow-line-spec =

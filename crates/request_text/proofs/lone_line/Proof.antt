@@ -24,8 +24,9 @@ same-requires-2 c κs = search needs
 returns-2 : tie.Need-returns-2
 unfolding loneOf
 returns-2 c =
+    let start = c .before .before .before in
     rw (
-      sym (c .before .before .before .before .same .ensures) ∙ c .before .before .before .if1 .left,
+      sym (start .before .same .ensures) ∙ start .if1 .left,
       sym (c .before .same2 .ensures) ∙ c .if2 .taken,
     )
 
@@ -38,9 +39,11 @@ same-requires-3 c κs = search needs
 returns-3 : tie.Need-returns-3
 unfolding loneOf
 returns-3 c =
+    let plan = c .before .before .before in
+    let start = plan .before .before .before in
     rw (
-      sym (c .before .before .before .before .before .before .before .same .ensures) ∙ c .before .before .before .before .before .before .if1 .left,
-      sym (c .before .before .before .before .same2 .ensures) ∙ c .before .before .before .if2 .left,
+      sym (start .before .same .ensures) ∙ start .if1 .left,
+      sym (plan .before .same2 .ensures) ∙ plan .if2 .left,
       sym (c .before .same3 .ensures) ∙ c .if3 .taken,
     )
 
@@ -53,10 +56,13 @@ same-requires-4 c κs = search needs
 returns-4 : tie.Need-returns-4
 unfolding loneOf
 returns-4 c =
+    let schedule = c .before .before .before in
+    let plan = schedule .before .before .before in
+    let start = plan .before .before .before in
     rw (
-      sym (c .before .before .before .before .before .before .before .before .before .before .same .ensures) ∙ c .before .before .before .before .before .before .before .before .before .if1 .left,
-      sym (c .before .before .before .before .before .before .before .same2 .ensures) ∙ c .before .before .before .before .before .before .if2 .left,
-      sym (c .before .before .before .before .same3 .ensures) ∙ c .before .before .before .if3 .left,
+      sym (start .before .same .ensures) ∙ start .if1 .left,
+      sym (plan .before .same2 .ensures) ∙ plan .if2 .left,
+      sym (schedule .before .same3 .ensures) ∙ schedule .if3 .left,
       sym (c .before .same4 .ensures) ∙ c .if4 .taken,
     )
 
@@ -69,22 +75,30 @@ same-requires-5 c κs = search needs
 returns-5 : tie.Need-returns-5
 unfolding loneOf
 returns-5 c =
+    let show = c .before .before .before in
+    let schedule = show .before .before .before in
+    let plan = schedule .before .before .before in
+    let start = plan .before .before .before in
     rw (
-      sym (c .before .before .before .before .before .before .before .before .before .before .before .before .before .same .ensures) ∙ c .before .before .before .before .before .before .before .before .before .before .before .before .if1 .left,
-      sym (c .before .before .before .before .before .before .before .before .before .before .same2 .ensures) ∙ c .before .before .before .before .before .before .before .before .before .if2 .left,
-      sym (c .before .before .before .before .before .before .before .same3 .ensures) ∙ c .before .before .before .before .before .before .if3 .left,
-      sym (c .before .before .before .before .same4 .ensures) ∙ c .before .before .before .if4 .left,
+      sym (start .before .same .ensures) ∙ start .if1 .left,
+      sym (plan .before .same2 .ensures) ∙ plan .if2 .left,
+      sym (schedule .before .same3 .ensures) ∙ schedule .if3 .left,
+      sym (show .before .same4 .ensures) ∙ show .if4 .left,
       sym (c .before .same5 .ensures) ∙ c .if5 .taken,
     )
 
 returns-6 : tie.Need-returns-6
 unfolding loneOf
 returns-6 c =
+    let show = c .before .before .before in
+    let schedule = show .before .before .before in
+    let plan = schedule .before .before .before in
+    let start = plan .before .before .before in
     rw (
-      sym (c .before .before .before .before .before .before .before .before .before .before .before .before .before .same .ensures) ∙ c .before .before .before .before .before .before .before .before .before .before .before .before .if1 .left,
-      sym (c .before .before .before .before .before .before .before .before .before .before .same2 .ensures) ∙ c .before .before .before .before .before .before .before .before .before .if2 .left,
-      sym (c .before .before .before .before .before .before .before .same3 .ensures) ∙ c .before .before .before .before .before .before .if3 .left,
-      sym (c .before .before .before .before .same4 .ensures) ∙ c .before .before .before .if4 .left,
+      sym (start .before .same .ensures) ∙ start .if1 .left,
+      sym (plan .before .same2 .ensures) ∙ plan .if2 .left,
+      sym (schedule .before .same3 .ensures) ∙ schedule .if3 .left,
+      sym (show .before .same4 .ensures) ∙ show .if4 .left,
       sym (c .before .same5 .ensures) ∙ c .if5 .left,
     )
 

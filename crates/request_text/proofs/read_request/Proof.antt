@@ -26,7 +26,13 @@ admit-line-requires c κs = search needs
 
 returns-2 : tie.Need-returns-2
 unfolding otherOf
-returns-2 c = rw (sym (c .before .before .before .before .before .blank .ensures) ∙ c .before .before .before .before .if1 .left, sym (c .before .before .same .ensures) ∙ c .before .if2 .taken) (c .admit-line .ensures)
+returns-2 c =
+    let admit = c .before in
+    let alone = admit .before .before .before in
+    rw (
+      sym (alone .before .blank .ensures) ∙ alone .if1 .left,
+      sym (admit .before .same .ensures) ∙ admit .if2 .taken,
+    ) (c .admit-line .ensures)
 
 slice-aggregate-same-2 : tie.Need-slice-aggregate-same-2
 slice-aggregate-same-2 c = search needs
@@ -40,10 +46,13 @@ release-line-requires c κs = search needs
 returns-3 : tie.Need-returns-3
 unfolding otherOf
 returns-3 c =
+    let release = c .before in
+    let admit = release .before .before .before in
+    let alone = admit .before .before .before in
     rw (
-      sym (c .before .before .before .before .before .before .before .before .blank .ensures) ∙ c .before .before .before .before .before .before .before .if1 .left,
-      sym (c .before .before .before .before .before .same .ensures) ∙ c .before .before .before .before .if2 .left,
-      sym (c .before .before .same2 .ensures) ∙ c .before .if3 .taken,
+      sym (alone .before .blank .ensures) ∙ alone .if1 .left,
+      sym (admit .before .same .ensures) ∙ admit .if2 .left,
+      sym (release .before .same2 .ensures) ∙ release .if3 .taken,
     ) (c .release-line .ensures)
 
 slice-aggregate-same-3 : tie.Need-slice-aggregate-same-3
@@ -58,11 +67,15 @@ sender-line-requires c κs = search needs
 returns-4 : tie.Need-returns-4
 unfolding otherOf
 returns-4 c =
+    let sender = c .before in
+    let release = sender .before .before .before in
+    let admit = release .before .before .before in
+    let alone = admit .before .before .before in
     rw (
-      sym (c .before .before .before .before .before .before .before .before .before .before .before .blank .ensures) ∙ c .before .before .before .before .before .before .before .before .before .before .if1 .left,
-      sym (c .before .before .before .before .before .before .before .before .same .ensures) ∙ c .before .before .before .before .before .before .before .if2 .left,
-      sym (c .before .before .before .before .before .same2 .ensures) ∙ c .before .before .before .before .if3 .left,
-      sym (c .before .before .same3 .ensures) ∙ c .before .if4 .taken,
+      sym (alone .before .blank .ensures) ∙ alone .if1 .left,
+      sym (admit .before .same .ensures) ∙ admit .if2 .left,
+      sym (release .before .same2 .ensures) ∙ release .if3 .left,
+      sym (sender .before .same3 .ensures) ∙ sender .if4 .taken,
     ) (c .sender-line .ensures)
 
 flow-line-requires : tie.Need-flow-line-requires
@@ -71,11 +84,15 @@ flow-line-requires c κs = search needs
 returns-5 : tie.Need-returns-5
 unfolding otherOf
 returns-5 c =
+    let sender = c .before in
+    let release = sender .before .before .before in
+    let admit = release .before .before .before in
+    let alone = admit .before .before .before in
     rw (
-      sym (c .before .before .before .before .before .before .before .before .before .before .before .blank .ensures) ∙ c .before .before .before .before .before .before .before .before .before .before .if1 .left,
-      sym (c .before .before .before .before .before .before .before .before .same .ensures) ∙ c .before .before .before .before .before .before .before .if2 .left,
-      sym (c .before .before .before .before .before .same2 .ensures) ∙ c .before .before .before .before .if3 .left,
-      sym (c .before .before .same3 .ensures) ∙ c .before .if4 .left,
+      sym (alone .before .blank .ensures) ∙ alone .if1 .left,
+      sym (admit .before .same .ensures) ∙ admit .if2 .left,
+      sym (release .before .same2 .ensures) ∙ release .if3 .left,
+      sym (sender .before .same3 .ensures) ∙ sender .if4 .left,
     ) (c .flow-line .ensures)
 
 pub read-request-spec : {M : Type 1} → statement M

@@ -17,7 +17,9 @@ cast-t6 : tie.Need-cast-t6
 cast-t6 c = search needs
 
 returns-2 : tie.Need-returns-2
-returns-2 c = release-made _ _ _ (said-last _ _ _ _ _ (c .before .before .before .next-operand .ensures .0) _ (c .before .before .complete .ensures)) (c .before .if1 .left)
+returns-2 c =
+    let told = c .before in
+    release-made _ _ _ (said-last _ _ _ _ _ (told .before .before .next-operand .ensures .0) _ (told .before .complete .ensures)) (told .if1 .left)
 
 pub release-line-spec : {M : Type 1} → statement M
 release-line-spec =

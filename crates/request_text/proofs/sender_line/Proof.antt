@@ -16,7 +16,8 @@ complete-requires c κs = search needs
 returns : tie.Need-returns
 returns c =
     sender-malformed _ _ _
-    (said-then _ _ _ _ _ (c .before .before .before .next-operand .ensures .0) _ _ _ _ (said-last _ _ _ _ _ (c .before .before .next-operand2 .ensures .0) _ (c .before .complete .ensures)))
+    (said-then _ _ _ _ _ (c .before .before .before .next-operand .ensures .0) _ _ _ _
+    (said-last _ _ _ _ _ (c .before .before .next-operand2 .ensures .0) _ (c .before .complete .ensures)))
     (c .if1 .taken)
 
 cast-t7 : tie.Need-cast-t7
@@ -24,9 +25,11 @@ cast-t7 c = search needs
 
 returns-2 : tie.Need-returns-2
 returns-2 c =
+    let told = c .before in
     sender-asked _ _ _ _
-    (said-then _ _ _ _ _ (c .before .before .before .before .next-operand .ensures .0) _ _ _ _ (said-last _ _ _ _ _ (c .before .before .before .next-operand2 .ensures .0) _ (c .before .before .complete .ensures)))
-    (c .before .if1 .left)
+    (said-then _ _ _ _ _ (told .before .before .before .next-operand .ensures .0) _ _ _ _
+    (said-last _ _ _ _ _ (told .before .before .next-operand2 .ensures .0) _ (told .before .complete .ensures)))
+    (told .if1 .left)
 
 pub sender-line-spec : {M : Type 1} → statement M
 sender-line-spec =
