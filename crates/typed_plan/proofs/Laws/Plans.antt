@@ -150,7 +150,7 @@ module _ (text : List ℕ) where
           let all : size + n ≡ length (planTyped text) = omega (arith, s .1) in
           rw all (s .0 (Length (length (planTyped text))))
 
--- What is storedPlan, by what the check of all lines came to.
+-- What is stored, by what the check of all lines came to.
 pub assembled-long : (text out : List ℕ) → 65535 < length text → (Long, out) ≡ assembledOf text out
 unfolding assembledOf
 assembled-long text out l = rw (lt-ltb _ _ l)
