@@ -27,7 +27,7 @@ fn without_arrivals(line: Line) -> Asked
     }
 }
 
-// Whether the line begins with `#`.
+// A line that begins with `#` is for its readers alone.
 fn remark(line: &[u8]) -> bool
     ensures { λ r. ⌜ r ≡ eqb (getD (now (line .entry)) 0 0) 35 ⌝ }
 {

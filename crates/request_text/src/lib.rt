@@ -47,7 +47,7 @@ fn complete(line: &[u8], last: Operand) -> bool
     blank(line, last.next)
 }
 
-// A line of one word.
+// `start`, `plan`, `schedule`, `show` and `typed` have no operands.
 fn lone_line(name: &[u8]) -> Line
     ensures { λ r. ⌜ r ≡ loneOf (now (name .entry)) ⌝ }
 {
@@ -109,7 +109,7 @@ fn sender_line(line: &[u8], from: usize) -> Line
     Line::Asks(Question::Sender(parent.value as u8, slot.value))
 }
 
-// A line that asks for something of one flow.
+// `cells` and `bound` have one operand, which is one of the 64 flow numbers.
 fn flow_line(name: &[u8], line: &[u8], from: usize) -> Line
     ensures { λ r. ⌜ r ≡ flowQuestion (now (name .entry)) (wordsOf (drop from (now (line .entry)))) ⌝ }
 {

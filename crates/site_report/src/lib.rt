@@ -126,7 +126,7 @@ fn put_flows(out: &mut [u8], at: usize, site: Site) -> usize
     taken
 }
 
-// The line of an accepted plan: how many links and flows its site has.
+// 01: the last line counts links and flows.
 pub fn put_counts(out: &mut [u8], at: usize, site: Site) -> usize
     ensures { λ r. ⌜ (r, now (out .exit)) ≡ puts (at, now (out .entry)) (countsLine site) ⌝ }
 {

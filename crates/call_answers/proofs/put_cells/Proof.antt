@@ -42,7 +42,9 @@ same-length-2 : tie.Need-same-length-2
 same-length-2 c = search needs
 
 returns-2 : tie.Need-returns-2
-returns-2 c = cells-all _ _ _ _ (c .before .before .before .before .before .if1 .left) (puts-then _ _ _ _ _ (puts-one _ _ _ (c .before .before .before .before .before .before .before .before .put .ensures)) (c .before .before .put-numbers .ensures))
+returns-2 c =
+    let there = c .before .before .before .before .before in
+    cells-all _ _ _ _ (there .if1 .left) (puts-then _ _ _ _ _ (puts-one _ _ _ (there .before .before .before .put .ensures)) (c .before .before .put-numbers .ensures))
 
 pub put-cells-spec : {M : Type 1} → statement M
 put-cells-spec =

@@ -126,7 +126,8 @@ module _ (text : List ℕ) where
           × (size + n + length (textOf (piecesOf tail)) ≡ length (planTyped text) + 1)
       unfolding firstWrong piecesOf
       passed tail r =
-          let more : length (textOf (pieceOf t ++ piecesOf tail)) ≡ length (textOf (pieceOf t)) + length (textOf (piecesOf tail)) = text-append (pieceOf t) (piecesOf tail) in
+          let more : length (textOf (pieceOf t ++ piecesOf tail)) ≡ length (textOf (pieceOf t)) + length (textOf (piecesOf tail)) =
+          text-append (pieceOf t) (piecesOf tail) in
           let left : piecesOf (linesOf (drop at text)) ≡ pieceOf t ++ piecesOf tail = rw (r, sym e) in (
             λ other. sym (rw (r, sym e) (right t line (firstWrong tail (line + 1) other) h)) ∙ p .rest other,
             omega (arith, b, more, rw left at (p .sum)),
