@@ -85,10 +85,10 @@ module _ (text : List ℕ) (s : ℕ × List ℕ) where
           ∙ sym (ap (λ (ls : List (List ℕ)). puts t (piecesOf ls)) (line-more text at end w (p .few) l)) ∙ p .rest;
     }
 
-    pub putting-last : end ≡ length text → (v : ℕ × List ℕ) → v ≡ put u (255 ∷ []) → v ≡ puts s (piecesOf (linesOf text))
+    pub putting-last : end ≡ length text → (v : ℕ × List ℕ) (code : ℕ) → v ≡ put u (code ∷ []) → code ≡ 255 → v ≡ puts s (piecesOf (linesOf text))
     unfolding piecesOf
-    putting-last l v f =
-        puts-then t u v (pieceOf (typedLine (take (end - at) (drop at text)))) ((255 ∷ []) ∷ []) e (puts-one u v (255 ∷ []) f)
+    putting-last l v code f q =
+        puts-then t u v (pieceOf (typedLine (take (end - at) (drop at text)))) ((255 ∷ []) ∷ []) e (puts-one u v (255 ∷ []) (f ∙ rw q))
         ∙ sym (ap (λ (ls : List (List ℕ)). puts t (piecesOf ls)) (line-last text at end w (p .few) l)) ∙ p .rest
 
   pub put-long : (t : ℕ × List ℕ) → t ≡ puts s (piecesOf (linesOf text)) → length (t .1) ≡ length (s .1)

@@ -43,14 +43,16 @@ same-length c =
     let put = ended .before .before .before in
     let found = put .before .before .before in
     put-long _ _ _
-    (putting-last _ _ _ _ _ _ (found .before .loop .inv) (found .find .ensures) (put .put-line .ensures) (ended .if1 .taken) _ (c .before .before .put .ensures))
+    (putting-last _ _ _ _ _ _ (found .before .loop .inv) (found .find .ensures) (put .put-line .ensures) (ended .if1 .taken) _ _
+    (c .before .before .put .ensures) (omega arith))
 
 returns : tie.Need-returns Inv-loop μ-loop
 returns c =
     let ended = c .before .before .before .before .before in
     let put = ended .before .before .before in
     let found = put .before .before .before in
-    putting-last _ _ _ _ _ _ (found .before .loop .inv) (found .find .ensures) (put .put-line .ensures) (ended .if1 .taken) _ (c .before .before .put .ensures)
+    putting-last _ _ _ _ _ _ (found .before .loop .inv) (found .find .ensures) (put .put-line .ensures) (ended .if1 .taken) _ _
+    (c .before .before .put .ensures) (omega arith)
 
 add-at : tie.Need-add-at Inv-loop μ-loop
 add-at c = omega (arith, c .before .before .before .before .before .before .find .ensures .within)
