@@ -9,7 +9,6 @@ ghost use Rattle.slices.specs.Written.{writing};
 ghost use Rattle.call_answers.specs.Answers.{lookupText, cellsText, boundText, planText, scheduleShown};
 ghost use Rattle.call_answers.specs.Inner.{frontText, writtenShown};
 
-// The child that sends, or the refusal.
 pub fn put_lookup(out: &mut [u8], at: usize, lookup: Lookup) -> usize
     ensures { λ r. ⌜ (r, now (out .exit)) ≡ puts (at, now (out .entry)) (lookupText (found lookup)) ⌝ }
 {
@@ -19,7 +18,7 @@ pub fn put_lookup(out: &mut [u8], at: usize, lookup: Lookup) -> usize
     }
 }
 
-// The nine cells of a flow number.
+// A flow number has nine cells: eight queues, then the delivered count. Counters that are too few for them show none.
 pub fn put_cells(out: &mut [u8], at: usize, counters: &[u32], number: u8) -> usize
     ensures { λ r. ⌜ (r, now (out .exit)) ≡ puts (at, now (out .entry)) (cellsText (now (counters .entry)) number) ⌝ }
 {
@@ -32,7 +31,7 @@ pub fn put_cells(out: &mut [u8], at: usize, counters: &[u32], number: u8) -> usi
     text::put_numbers(out, named, &counters[start..end])
 }
 
-// The bound and the deadline of a live flow.
+// A number that is not live has no route, and so no bound.
 pub fn put_bound(out: &mut [u8], at: usize, site: Site, number: u8) -> usize
     ensures { λ r. ⌜ (r, now (out .exit)) ≡ puts (at, now (out .entry)) (boundText site number) ⌝ }
 {
@@ -45,7 +44,7 @@ pub fn put_bound(out: &mut [u8], at: usize, site: Site, number: u8) -> usize
     text::put_field(out, bounded, b" deadline ", deadline as u64)
 }
 
-// The first n bytes of a slice that has so many.
+// No writer answers more bytes than its slice has: for such an n nothing is shown, so that callers have nothing to show first.
 fn put_front(out: &mut [u8], at: usize, bytes: &[u8], n: usize) -> usize
     ensures { λ r. ⌜ (r, now (out .exit)) ≡ puts (at, now (out .entry)) (frontText n (now (bytes .entry))) ⌝ }
 {

@@ -1,5 +1,3 @@
--- What is proved of lines: the operands that words give, the arrivals of a slot, and what the first word asks for.
-pub mod Operands
-pub mod Arrivals
+-- What is proved of lines: what the first word asks for, and lines in plain words.
 pub mod Requests
 pub mod Forms

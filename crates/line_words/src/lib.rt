@@ -13,7 +13,7 @@ pub struct Word {
     pub end: usize,
 }
 
-// A number, if there is one.
+// Where no number is given, `value` is 0.
 pub struct Number {
     pub given: bool,
     pub value: u32,
@@ -78,7 +78,6 @@ fn word_end(line: &[u8], from: usize) -> usize
     line.len()
 }
 
-// The first word from `from` on.
 pub fn next_word(line: &[u8], from: usize) -> Word
     ensures { λ r. ⌜ NextWord (now (line .entry)) from (r .start) (r .end) ⌝ }
 {

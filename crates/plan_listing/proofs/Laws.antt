@@ -1,4 +1,3 @@
 -- What is proved of listings. The modules named here hold the laws.
 pub mod Lines
-pub mod Read
 pub mod Short

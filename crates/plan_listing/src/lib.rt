@@ -6,28 +6,31 @@ use site::Site;
 use slices::Written;
 ghost use mathlib.Core.Path.{_≡_};
 ghost use Rattle.text.specs.Put.{puts};
-ghost use Rattle.plan_listing.specs.Listing.{listingOf, nodeText, nodeTyped, typedFlow, flowTypedIf, siteTyped};
+ghost use Rattle.plan_listing.specs.Listing.{listingLines, listingOf, nodeText, nodeTyped, typedFlow, flowTypedIf, siteTyped};
 ghost use Rattle.slices.specs.Written.{writing, written};
+ghost use Rattle.plan_reader.specs.Read.{readOf};
 ghost use Rattle.lists.specs.Lists.{joined};
 ghost use Rattle.site.specs.Sites.{used};
 
-// Plan bytes as lines that can be typed again.
+// Only an accepted plan has a listing; of any other the refusal is told.
+fn put_listing(out: &mut [u8], at: usize, bytes: &[u8]) -> usize
+    ensures { λ r. ⌜ (r, now (out .exit)) ≡ puts (at, now (out .entry)) (listingLines (readOf (now (bytes .entry)))) ⌝ }
+{
+    let read = plan_reader::read_plan(bytes);
+    let verdict = read.verdict;
+    match verdict {
+        Verdict::Accepted => put_plan(out, at, read.site),
+        Verdict::Refused(number, place) => put_refusal_line(out, at, number, place),
+    }
+}
+
+// No text is longer than 8,192 bytes: the law `listing-short`.
 pub fn list_plan(bytes: &[u8], out: &mut [u8]) -> Written
     ensures { λ r. ⌜ (writing r, now (out .exit)) ≡ written (listingOf (now (bytes .entry))) (now (out .entry)) ⌝ }
 {
     let mut lines = [0u8; 8192];
-    let read = plan_reader::read_plan(bytes);
-    let verdict = read.verdict;
-    match verdict {
-        Verdict::Accepted => {
-            let size = put_plan(&mut lines, 0, read.site);
-            deliver(&lines, size, out)
-        }
-        Verdict::Refused(number, place) => {
-            let size = put_refusal_line(&mut lines, 0, number, place);
-            deliver(&lines, size, out)
-        }
-    }
+    let size = put_listing(&mut lines, 0, bytes);
+    deliver(&lines, size, out)
 }
 
 fn put_node(out: &mut [u8], at: usize, parent: u8, capacity: u16, gap: u16) -> usize

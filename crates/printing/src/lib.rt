@@ -30,7 +30,7 @@ fn print_written(written: Written, text: &[u8]) -> usize
     }
 }
 
-// What `slotplan` prints of plan bytes, all of it: no text is longer than 8,192 bytes, by the law `report-short` of crate `report`.
+// What `slotplan` prints of plan bytes, all of it: no text is longer than 8,192 bytes, by the law `report-short` of crate `site_report`.
 pub fn print_report(bytes: &[u8]) -> usize
     ensures { λ r. ⌜ r ≡ length (reportOf (now (bytes .entry))) ⌝ }
 {

@@ -1,9 +1,9 @@
 // A planner tries a site by typing. The one argument names a file with the plan; each line of standard input asks for a call, or for something of
 // the site as it is now, and gets its answer.
-use call_text::Call;
-use call_text::Line;
-use call_text::Question;
 use judgement::Judged;
+use request_text::Call;
+use request_text::Line;
+use request_text::Question;
 use rulings::Verdict;
 use site::Site;
 use slices::Written;

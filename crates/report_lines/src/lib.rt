@@ -2,14 +2,13 @@
 use rulings::Verdict;
 use slices::Written;
 ghost use mathlib.Core.Path.{_≡_};
-ghost use Prim.Native.Nat.{_≤_};
-ghost use lib.ListN.{length, take};
+ghost use lib.ListN.{take};
 ghost use Rattle.text.specs.Put.{puts};
 ghost use Rattle.rulings.specs.Outcome.{ruling};
 ghost use Rattle.report_lines.specs.Lines.{refusal, refusalLine, verdictText, slotsText};
 ghost use Rattle.slices.specs.Written.{writing, written};
 
-// The number and the place of a refusal.
+// 01: every refusal is a number with a place. The line stays open, since an answer of `rehearse` ends its own.
 pub fn put_refusal(out: &mut [u8], at: usize, number: u8, place: usize) -> usize
     ensures { λ r. ⌜ (r, now (out .exit)) ≡ puts (at, now (out .entry)) (refusal number place) ⌝ }
 {
@@ -17,7 +16,7 @@ pub fn put_refusal(out: &mut [u8], at: usize, number: u8, place: usize) -> usize
     text::put_field(out, named, b" ", place as u64)
 }
 
-// What a call came to.
+// An accepted call brings no figures, so one word stands for it.
 pub fn put_verdict(out: &mut [u8], at: usize, verdict: Verdict) -> usize
     ensures { λ r. ⌜ (r, now (out .exit)) ≡ puts (at, now (out .entry)) (verdictText (ruling verdict)) ⌝ }
 {
@@ -27,6 +26,7 @@ pub fn put_verdict(out: &mut [u8], at: usize, verdict: Verdict) -> usize
     }
 }
 
+// 01: a refusal prints one line, as `refused 13 0`.
 pub fn put_refusal_line(out: &mut [u8], at: usize, number: u8, place: usize) -> usize
     ensures { λ r. ⌜ (r, now (out .exit)) ≡ puts (at, now (out .entry)) (refusalLine number place) ⌝ }
 {
@@ -34,16 +34,19 @@ pub fn put_refusal_line(out: &mut [u8], at: usize, number: u8, place: usize) -> 
     slices::put(out, told, b"\n")
 }
 
-// The front of a text, if the slice has room for it.
+// 01: a writer fills the front of the borrowed slice. What it writes here are the first `size` bytes of the text, all of them where it has fewer.
 pub fn deliver(text: &[u8], size: usize, out: &mut [u8]) -> Written
-    requires { ⌜ size ≤ length (now text) ⌝ }
     ensures { λ r. ⌜ (writing r, now (out .exit)) ≡ written (take size (now (text .entry))) (now (out .entry)) ⌝ }
 {
-    if out.len() < size {
+    let mut front = size;
+    if text.len() < size {
+        front = text.len();
+    }
+    if out.len() < front {
         return Written::Refused(1, 0);
     }
-    slices::put(out, 0, &text[0..size]);
-    Written::Length(size)
+    slices::put(out, 0, &text[0..front]);
+    Written::Length(front)
 }
 
 pub fn put_slots(out: &mut [u8], at: usize, offset: u16, period: u16) -> usize

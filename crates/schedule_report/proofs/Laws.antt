@@ -1,3 +1,2 @@
 -- What is proved of printed schedules. The modules named here hold the laws.
-pub mod Read
 pub mod Short

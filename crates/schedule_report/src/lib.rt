@@ -7,33 +7,36 @@ use schedule_check::Schedule;
 use slices::Written;
 ghost use mathlib.Core.Path.{_≡_};
 ghost use Rattle.text.specs.Put.{puts};
-ghost use Rattle.schedule_report.specs.Report.{scheduleReportOf, slotsLine, scheduleText};
+ghost use Rattle.schedule_report.specs.Report.{scheduleLines, scheduleReportOf, slotsLine, scheduleText};
 ghost use Rattle.slices.specs.Written.{writing, written};
 ghost use Prim.Native.Nat.{_+_, _<_};
 ghost use mathlib.Core.List.{_∷_};
 ghost use Rattle.text.specs.Letters.{letters};
 ghost use Rattle.text.specs.Decimal.{decimal};
+ghost use Rattle.schedule_reader.specs.Read.{scheduleRead};
 ghost use Rattle.lists.specs.Lists.{joined};
 ghost use Rattle.site.specs.Sites.{used};
 ghost use Rattle.report_lines.specs.Lines.{slotsText};
 
-// What is printed of schedule bytes.
+// The lines of an accepted schedule, or the one line of a refusal.
+fn put_report(out: &mut [u8], at: usize, bytes: &[u8]) -> usize
+    ensures { λ r. ⌜ (r, now (out .exit)) ≡ puts (at, now (out .entry)) (scheduleLines (scheduleRead (now (bytes .entry)))) ⌝ }
+{
+    let read = schedule_reader::read_schedule(bytes);
+    let verdict = read.verdict;
+    match verdict {
+        Verdict::Accepted => put_schedule(out, at, read.schedule),
+        Verdict::Refused(number, place) => put_refusal_line(out, at, number, place),
+    }
+}
+
+// No text is longer than 8,192 bytes: the law `schedule-report-short`.
 pub fn report_schedule(bytes: &[u8], out: &mut [u8]) -> Written
     ensures { λ r. ⌜ (writing r, now (out .exit)) ≡ written (scheduleReportOf (now (bytes .entry))) (now (out .entry)) ⌝ }
 {
     let mut lines = [0u8; 8192];
-    let read = schedule_reader::read_schedule(bytes);
-    let verdict = read.verdict;
-    match verdict {
-        Verdict::Accepted => {
-            let size = put_schedule(&mut lines, 0, read.schedule);
-            deliver(&lines, size, out)
-        }
-        Verdict::Refused(number, place) => {
-            let size = put_refusal_line(&mut lines, 0, number, place);
-            deliver(&lines, size, out)
-        }
-    }
+    let size = put_report(&mut lines, 0, bytes);
+    deliver(&lines, size, out)
 }
 
 fn put_link(out: &mut [u8], at: usize, i: usize, offset: u16, period: u16) -> usize

@@ -7,9 +7,10 @@ use site::Site;
 use slices::Written;
 ghost use mathlib.Core.Path.{_≡_};
 ghost use Rattle.text.specs.Put.{puts};
-ghost use Rattle.site_report.specs.Report.{siteLines, reportOf, linkText, linkLine, flowText, flowLineIf, countsLine};
+ghost use Rattle.site_report.specs.Report.{siteLines, reportLines, reportOf, linkText, linkLine, flowText, flowLineIf, countsLine};
 ghost use Rattle.slices.specs.Written.{writing, written};
 ghost use Prim.Native.Nat.{_+_, _<_};
+ghost use Rattle.plan_reader.specs.Read.{readOf};
 ghost use Rattle.lists.specs.Lists.{joined};
 ghost use Rattle.site.specs.Sites.{used};
 
@@ -21,23 +22,25 @@ fn put_site(out: &mut [u8], at: usize, site: Site) -> usize
     put_counts(out, flown, site)
 }
 
-// What is printed of plan bytes. No text is longer than 8,192 bytes: the law `report-short`.
+// 01, Marked plans: the lines of an accepted plan, or the one line of a refusal.
+fn put_report(out: &mut [u8], at: usize, bytes: &[u8]) -> usize
+    ensures { λ r. ⌜ (r, now (out .exit)) ≡ puts (at, now (out .entry)) (reportLines (readOf (now (bytes .entry)))) ⌝ }
+{
+    let read = plan_reader::read_plan(bytes);
+    let verdict = read.verdict;
+    match verdict {
+        Verdict::Accepted => put_site(out, at, read.site),
+        Verdict::Refused(number, place) => put_refusal_line(out, at, number, place),
+    }
+}
+
+// No text is longer than 8,192 bytes: the law `report-short`.
 pub fn report(bytes: &[u8], out: &mut [u8]) -> Written
     ensures { λ r. ⌜ (writing r, now (out .exit)) ≡ written (reportOf (now (bytes .entry))) (now (out .entry)) ⌝ }
 {
     let mut lines = [0u8; 8192];
-    let read = plan_reader::read_plan(bytes);
-    let verdict = read.verdict;
-    match verdict {
-        Verdict::Accepted => {
-            let size = put_site(&mut lines, 0, read.site);
-            deliver(&lines, size, out)
-        }
-        Verdict::Refused(number, place) => {
-            let size = put_refusal_line(&mut lines, 0, number, place);
-            deliver(&lines, size, out)
-        }
-    }
+    let size = put_report(&mut lines, 0, bytes);
+    deliver(&lines, size, out)
 }
 
 fn put_link(
@@ -123,7 +126,7 @@ fn put_flows(out: &mut [u8], at: usize, site: Site) -> usize
     taken
 }
 
-// The line of an accepted plan: how many links and flows its site has.
+// 01: the last line counts links and flows.
 pub fn put_counts(out: &mut [u8], at: usize, site: Site) -> usize
     ensures { λ r. ⌜ (r, now (out .exit)) ≡ puts (at, now (out .entry)) (countsLine site) ⌝ }
 {

@@ -1,4 +1,4 @@
-// Text put into a borrowed space piece by piece: words, decimal numbers, bytes in hexadecimal.
+// Text put into a borrowed space piece by piece: words and decimal numbers.
 use slices::put;
 ghost use mathlib.Core.Path.{_≡_};
 ghost use mathlib.Core.List.{[], _∷_};
@@ -7,7 +7,7 @@ ghost use Rattle.text.specs.Put.{puts};
 ghost use Rattle.text.specs.Decimal.{decimal};
 ghost use Rattle.text.specs.Listed.{each, spacedDecimal};
 
-// Puts the digits of a number.
+// No number of 64 bits has more than 20 digits.
 pub fn put_decimal(out: &mut [u8], at: usize, value: u64) -> usize
     ensures { λ r. ⌜ (r, now (out .exit)) ≡ put· (at, now (out .entry)) (decimal value) ⌝ }
 {
@@ -16,7 +16,6 @@ pub fn put_decimal(out: &mut [u8], at: usize, value: u64) -> usize
     put(out, at, &digits[0..n])
 }
 
-// Puts a word and the number that it names.
 pub fn put_field(out: &mut [u8], at: usize, name: &[u8], value: u64) -> usize
     ensures { λ r. ⌜ (r, now (out .exit)) ≡ puts (at, now (out .entry)) (now (name .entry) ∷ decimal value ∷ []) ⌝ }
 {

@@ -74,7 +74,7 @@ fn read_command(line: &[u8]) -> Typed
     Typed::Bad(0, 1)
 }
 
-// What a line says before its comment.
+// A comment begins with `#` and ends with the line.
 pub fn read_line(line: &[u8]) -> Typed
     ensures { λ r. ⌜ r ≡ typedLine (now (line .entry)) ⌝ }
 {

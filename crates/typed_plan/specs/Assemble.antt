@@ -2,8 +2,10 @@
 use Prim.Native.Nat.{ℕ, _+_}
 use mathlib.Core.Bool.{cond}
 use mathlib.Core.List.{List, [], _∷_, _++_}
+use mathlib.Core.Logic.{_⊎_, inl, inr}
 use lib.Dec.{ltb}
 use lib.ListN.{length, drop}
+use Rattle.rulings.specs.Outcome.{Outcome, accepted, refused}
 use Rattle.text.specs.Put.{textOf}
 use Rattle.line_words.specs.Parts.{linesOf}
 use Rattle.plan_writer.specs.Write.{nodeCommand, flowCommand}
@@ -12,6 +14,20 @@ use Rattle.typed_line.specs.declared.Typed.the-variants.{Nothing, Node, Flow, B
 use Rattle.typed_plan.specs.declared.Assembled.{Assembled}
 use Rattle.typed_plan.specs.declared.Assembled.the-variants.{Length, BadLine, Short, Long}
 use Rattle.typed_line.specs.Lines.{typedLine}
+
+-- A text that has no plan: the number of its first wrong line, its command and the place of its first wrong word; or it is too long to be read. 01 knows
+-- plans as bytes alone, so that neither has a number in its tables.
+pub data NoPlan : Type 0 where
+  wrongLine : ℕ → ℕ → ℕ → NoPlan
+  tooLong : NoPlan
+
+-- What each case of an answer says in the terms of 01's tables: the number of bytes written, or 1 with place 0, since the slice that is filled is too
+-- short; beside them stand the texts without a plan.
+unfoldable pub assembling : Assembled → Outcome ℕ ⊎ NoPlan
+assembling (Length n) = inl (accepted n)
+assembling Short = inl (refused 1 0)
+assembling (BadLine k command place) = inr (wrongLine k command place)
+assembling Long = inr tooLong
 
 -- The command of a line, if it has one.
 unfoldable pub pieceOf : Typed → List (List ℕ)
@@ -41,7 +57,7 @@ unfoldable pub firstWrong : List (List ℕ) → ℕ → Assembled → Assembled
 firstWrong [] k other = other
 firstWrong (l ∷ ls) k other = wrongOr (typedLine l) k (firstWrong ls (k + 1) other)
 
--- A plan of n bytes is storedPlan at the front of a slice that has room for it; every other answer leaves the slice.
+-- A plan of n bytes is stored at the front of a slice that has room for it; every other answer leaves the slice.
 unfoldable pub storedPlan : Assembled → List ℕ → List ℕ → Assembled × List ℕ
 storedPlan (Length n) plan out = cond (ltb (length out) n) (Short, out) (Length n, plan ++ drop n out)
 storedPlan (BadLine k command place) plan out = (BadLine k command place, out)

@@ -16,7 +16,7 @@ pub enum Assembled {
     Long,
 }
 
-// Stores the plan bytes of a text.
+// All lines are judged before a byte is stored, so that every answer but a length leaves the slice.
 pub fn assemble(text: &[u8], out: &mut [u8]) -> Assembled
     ensures { λ r. ⌜ (r, now (out .exit)) ≡ assembledOf (now (text .entry)) (now (out .entry)) ⌝ }
 {

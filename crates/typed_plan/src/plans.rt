@@ -11,7 +11,7 @@ ghost use Rattle.typed_plan.specs.declared.Assembled.the-variants.{Lengt
 ghost use Rattle.typed_line.specs.Lines.{typedLine};
 ghost use Rattle.typed_plan.specs.Assemble.{pieceOf, piecesOf, planTyped, firstWrong};
 
-// How many bytes the command of a line takes.
+// 01: NODE and FLOW take six bytes each.
 fn command_size(typed: Typed) -> usize
     ensures { λ r. ⌜ r ≡ length (textOf (pieceOf typed)) ⌝ }
 {
@@ -23,7 +23,7 @@ fn command_size(typed: Typed) -> usize
     }
 }
 
-// How many bytes the plan takes, or its first wrong line.
+// The size begins with the one byte of END. A text of at most 65,535 bytes has so few lines that no sum here is too large.
 pub(crate) fn check(text: &[u8]) -> Assembled
     requires { ⌜ length (now text) ≤ 65535 ⌝ }
     ensures { λ r. ⌜ r ≡ firstWrong (linesOf (now (text .entry))) 1 (Length (length (planTyped (now (text .entry))))) ⌝ }
@@ -70,7 +70,7 @@ fn put_line(out: &mut [u8], at: usize, line: &[u8]) -> usize
     put_command(out, at, typed)
 }
 
-// Puts the commands of all lines, and END behind them.
+// Behind the commands stands END, the byte 255.
 pub(crate) fn put_plan(text: &[u8], out: &mut [u8]) -> usize
     ensures { λ r. ⌜ (r, now (out .exit)) ≡ puts (0, now (out .entry)) (piecesOf (linesOf (now (text .entry)))) ⌝ }
 {

@@ -21,7 +21,9 @@ same-length : tie.Need-same-length
 same-length c = search needs
 
 returns : tie.Need-returns
-returns c = bound-idle _ _ _ _ _ (c .before .before .before .before .before .before .is-live .ensures) (not-true _ (c .before .before .before .before .before .if1 .taken)) (puts-one _ _ _ (c .before .before .put .ensures))
+returns c =
+    let told = c .before .before .before .before .before in
+    bound-idle _ _ _ _ _ (told .before .is-live .ensures) (not-true _ (told .if1 .taken)) (puts-one _ _ _ (c .before .before .put .ensures))
 
 delay-bound-requires : tie.Need-delay-bound-requires
 delay-bound-requires c κs = search needs
@@ -30,7 +32,9 @@ mul-deadline : tie.Need-mul-deadline
 mul-deadline c = search needs
 
 element-copy-out-deadline : tie.Need-element-copy-out-deadline
-element-copy-out-deadline c = let long : length (c .before .before .before .before .args .t3 .states) ≡ 64 = search needs in live-below (c .before .before .before .before .args .t3) _ long (sym (c .before .before .is-live .ensures) ∙ not-false _ (c .before .if1 .left))
+element-copy-out-deadline c =
+    let long : length (c .before .before .before .before .args .t3 .states) ≡ 64 = search needs in
+    live-below (c .before .before .before .before .args .t3) _ long (sym (c .before .before .is-live .ensures) ∙ not-false _ (c .before .if1 .left))
 
 slice-aggregate-put-field : tie.Need-slice-aggregate-put-field
 slice-aggregate-put-field c = search needs
@@ -54,7 +58,12 @@ same-length-2 : tie.Need-same-length-2
 same-length-2 c = search needs
 
 returns-2 : tie.Need-returns-2
-returns-2 c = bound-live _ _ _ _ _ _ (c .before .before .before .before .before .before .before .before .before .before .before .before .before .is-live .ensures) (not-false _ (c .before .before .before .before .before .before .before .before .before .before .before .before .if1 .left)) (c .before .before .before .before .before .before .before .before .before .before .before .delay-bound .ensures) (puts-then _ _ _ _ _ (c .before .before .before .before .before .before .before .put-field .ensures) (c .before .before .put-field2 .ensures))
+returns-2 c =
+    let bounded = c .before .before .before .before .before .before .before in
+    let judged = bounded .before .before .before .before in
+    let told = judged .before in
+    bound-live _ _ _ _ _ _ (told .before .is-live .ensures) (not-false _ (told .if1 .left)) (judged .delay-bound .ensures)
+    (puts-then _ _ _ _ _ (bounded .put-field .ensures) (c .before .before .put-field2 .ensures))
 
 pub put-bound-spec : {M : Type 1} → statement M
 put-bound-spec =

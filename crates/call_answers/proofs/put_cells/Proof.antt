@@ -1,5 +1,6 @@
 -- Right because the nine cells stand together among the counters.
 use borrow.Author.Needs.{needs}
+use native.Mathlib.Omega.{arith}
 use Rattle.text.proofs.Laws.Put.{puts-one, puts-then}
 use Rattle.call_answers.proofs.Laws.{cells-none, cells-all}
 use Rattle.call_answers.proofs.put_cells.Statement.{statement}
@@ -21,7 +22,7 @@ same-length : tie.Need-same-length
 same-length c = search needs
 
 returns : tie.Need-returns
-returns c = cells-none _ _ _ _ (c .if1 .taken) (puts-one _ _ _ (c .before .before .before .put .ensures))
+returns c = cells-none _ _ _ _ (omega arith) (puts-one _ _ _ (c .before .before .before .put .ensures))
 
 mul-put-numbers : tie.Need-mul-put-numbers
 mul-put-numbers c = search needs
@@ -42,7 +43,9 @@ same-length-2 : tie.Need-same-length-2
 same-length-2 c = search needs
 
 returns-2 : tie.Need-returns-2
-returns-2 c = cells-all _ _ _ _ (c .before .before .before .before .before .if1 .left) (puts-then _ _ _ _ _ (puts-one _ _ _ (c .before .before .before .before .before .before .before .before .put .ensures)) (c .before .before .put-numbers .ensures))
+returns-2 c =
+    let there = c .before .before .before .before .before in
+    cells-all _ _ _ _ (omega arith) (puts-then _ _ _ _ _ (puts-one _ _ _ (there .before .before .before .put .ensures)) (c .before .before .put-numbers .ensures))
 
 pub put-cells-spec : {M : Type 1} → statement M
 put-cells-spec =

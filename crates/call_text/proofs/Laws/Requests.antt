@@ -11,10 +11,12 @@ use Rattle.text.specs.Decimal.{valueOf, isNumber}
 use Rattle.line_words.specs.Words.{wordsOf, operandOf, NextWord}
 use Rattle.lists.specs.Lists.{same}
 use Rattle.line_words.proofs.Laws.Words.{first-word, no-word}
-use Rattle.call_text.specs.declared.Call.the-variants.{Slot}
-use Rattle.call_text.specs.declared.Line.the-variants.{PassedOver, Makes, Malformed}
+use Rattle.arrivals_text.specs.Counts.{arrivalsOf}
+use Rattle.request_text.specs.Requests.{otherOf}
+use Rattle.request_text.specs.declared.Call.the-variants.{Slot}
+use Rattle.request_text.specs.declared.Line.the-variants.{PassedOver, Makes, Malformed}
 use Rattle.call_text.specs.declared.Asked.{Asked}
-use Rattle.call_text.specs.Lines.{alone, arrivalsOf, slotWith, slotLine, otherOf, requestOf, askedOf}
+use Rattle.call_text.specs.Lines.{alone, slotWith, slotLine, requestOf, askedOf}
 
 -- What a slot's number and its counts make.
 abbrev Read : Type 0

@@ -23,8 +23,9 @@ without-arrivals-requires-2 c κs = search needs
 
 returns-2 : tie.Need-returns-2
 returns-2 c =
+    let word = c .before .before in
     c .without-arrivals2 .ensures
-    ∙ asked-nothing _ _ _ (sym (c .before .before .before .before .remark .ensures) ∙ c .before .before .before .if1 .left) (c .before .before .next-word .ensures) (c .before .if2 .taken)
+    ∙ asked-nothing _ _ _ (sym (word .before .before .remark .ensures) ∙ word .before .if1 .left) (word .next-word .ensures) (c .before .if2 .taken)
 
 sub-name : tie.Need-sub-name
 sub-name c = search needs
@@ -46,22 +47,26 @@ slot-line-requires c κs = search needs
 
 returns-3 : tie.Need-returns-3
 returns-3 c =
+    let named = c .before in
+    let word = named .before .before .before .before .before in
     c .slot-line .ensures
-    ∙ asked-slot _ _ _ (sym (c .before .before .before .before .before .before .before .before .remark .ensures) ∙ c .before .before .before .before .before .before .before .if1 .left)
-    (c .before .before .before .before .before .before .next-word .ensures) (c .before .before .before .before .before .if2 .left) (sym (c .before .before .same .ensures) ∙ c .before .if3 .taken)
+    ∙ asked-slot _ _ _ (sym (word .before .before .remark .ensures) ∙ word .before .if1 .left)
+    (word .next-word .ensures) (named .before .before .before .before .if2 .left) (sym (named .before .same .ensures) ∙ named .if3 .taken)
 
-other-line-requires : tie.Need-other-line-requires
-other-line-requires c κs = search needs
+read-request-requires : tie.Need-read-request-requires
+read-request-requires c κs = search needs
 
 without-arrivals-requires-3 : tie.Need-without-arrivals-requires-3
 without-arrivals-requires-3 c κs = search needs
 
 returns-4 : tie.Need-returns-4
 returns-4 c =
+    let named = c .before .before in
+    let word = named .before .before .before .before .before in
     c .without-arrivals3 .ensures
-    ∙ ap alone (c .before .other-line .ensures)
-    ∙ asked-other _ _ _ (sym (c .before .before .before .before .before .before .before .before .before .remark .ensures) ∙ c .before .before .before .before .before .before .before .before .if1 .left)
-    (c .before .before .before .before .before .before .before .next-word .ensures) (c .before .before .before .before .before .before .if2 .left) (sym (c .before .before .before .same .ensures) ∙ c .before .before .if3 .left)
+    ∙ ap alone (c .before .read-request .ensures)
+    ∙ asked-other _ _ _ (sym (word .before .before .remark .ensures) ∙ word .before .if1 .left)
+    (word .next-word .ensures) (named .before .before .before .before .if2 .left) (sym (named .before .same .ensures) ∙ named .if3 .left)
 
 pub read-line-spec : {M : Type 1} → statement M
 read-line-spec =
@@ -80,6 +85,6 @@ read-line-spec =
     same-requires
     slot-line-requires
     returns-3
-    other-line-requires
+    read-request-requires
     without-arrivals-requires-3
     returns-4)

@@ -22,12 +22,16 @@ without-arrivals-requires-2 c κs = search needs
 
 returns-2 : tie.Need-returns-2
 returns-2 c =
+    let read = c .before .before .before in
+    let told = read .before in
     c .without-arrivals2 .ensures
-    ∙ slot-refused _ _ _ _ (c .before .before .before .before .before .before .next-operand .ensures .0) (c .before .before .before .before .if1 .left) _ _ (c .before .before .before .read-arrivals .ensures) (c .before .if2 .taken)
+    ∙ slot-refused _ _ _ _ (told .before .before .next-operand .ensures .0) (told .if1 .left) _ _ (read .read-arrivals .ensures) (c .before .if2 .taken)
 
 returns-3 : tie.Need-returns-3
 returns-3 c =
-    slot-made _ _ _ _ (c .before .before .before .before .before .before .next-operand .ensures .0) (c .before .before .before .before .if1 .left) _ _ (c .before .before .before .read-arrivals .ensures) (c .before .if2 .left)
+    let read = c .before .before .before in
+    let told = read .before in
+    slot-made _ _ _ _ (told .before .before .next-operand .ensures .0) (told .if1 .left) _ _ (read .read-arrivals .ensures) (c .before .if2 .left)
 
 pub slot-line-spec : {M : Type 1} → statement M
 slot-line-spec =

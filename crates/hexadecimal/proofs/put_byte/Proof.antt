@@ -22,7 +22,10 @@ same-length c = search needs
 
 returns : tie.Need-returns
 unfolding hexOf
-returns c = c .before .before .put .ensures ∙ rw (c .before .before .before .before .before .glyph2 .ensures, c .before .before .before .before .before .before .glyph .ensures)
+returns c =
+    let end = c .before .before in
+    let low = end .before .before .before in
+    end .put .ensures ∙ rw (low .glyph2 .ensures, low .before .glyph .ensures)
 
 pub put-byte-spec : {M : Type 1} → statement M
 put-byte-spec =

@@ -32,7 +32,10 @@ same-length : tie.Need-same-length
 same-length c = search needs
 
 returns-2 : tie.Need-returns-2
-returns-2 c = puts-then _ _ _ _ _ (puts-one _ _ _ (c .before .before .before .before .before .before .before .put-byte .ensures)) (c .before .before .put-hex .ensures) ∙ hex-some _ _ (omega arith)
+returns-2 c =
+    let end = c .before .before in
+    puts-then _ _ _ _ _ (puts-one _ _ _ (end .before .before .before .before .before .put-byte .ensures)) (end .put-hex .ensures)
+    ∙ hex-some _ _ (omega arith)
 
 pub put-bytes-spec : {M : Type 1} → statement M
 put-bytes-spec =

@@ -130,6 +130,7 @@ module _ (line : List ℕ) (from start end most : ℕ) (w : NextWord line from s
   operand-some n = rw (is-value n, w .words) (go (eqb start end) refl)
     where
       go : (b : Bool) → eqb start end ≡ b
-          → (true, valueOf (take (end - start) (drop start line)), wordsOf (drop end line)) ≡ operandOf (cond b [] (take (end - start) (drop start line) ∷ wordsOf (drop end line))) most
+          → (true, valueOf (take (end - start) (drop start line)), wordsOf (drop end line))
+          ≡ operandOf (cond b [] (take (end - start) (drop start line) ∷ wordsOf (drop end line))) most
       go true same = let none : end - start ≡ 0 = omega (arith, eqb-true start end same) in absurd (true≢false (sym (is-number n) ∙ rw none))
       go false same = rw (is-number n)

@@ -103,7 +103,13 @@ module _ (line : List ℕ) where
   unfolding none wordsOf parts
   none-found from r w = elim (eq-or-lt-of-le {n = r} {m = length line} (w .within)) [
     | inl q ↦ rw (words-from from r w, words-end r (omega arith), eq-eqb r (length line) q)
-    | inr l ↦ rw (words-from from r w, ne-eqb r (length line) (λ q. absurd (omega arith)), drop-cons line r 0 l, not-true (isBlank (getD line r 0)) (w .marked l), begun (getD line r 0) (parts isBlank (drop (suc r) line)))
+    | inr l ↦ rw (
+      words-from from r w,
+      ne-eqb r (length line) (λ q. absurd (omega arith)),
+      drop-cons line r 0 l,
+      not-true (isBlank (getD line r 0)) (w .marked l),
+      begun (getD line r 0) (parts isBlank (drop (suc r) line)),
+    )
   ]
 
   -- A line without words from an index on, and the first of those that there are.

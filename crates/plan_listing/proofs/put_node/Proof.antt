@@ -37,7 +37,10 @@ returns c =
     let wanted = end .before .before .before .before .before in
     let wide = wanted .before .before .before .before .before in
     let under = wide .before .before .before .before .before in
-    puts-then _ _ _ _ _ (under .put-field .ensures) (puts-then _ _ _ _ _ (wide .put-field2 .ensures) (puts-then _ _ _ _ _ (wanted .put-field3 .ensures) (puts-one _ _ _ (end .put .ensures))))
+    puts-then _ _ _ _ _ (under .put-field .ensures)
+    (puts-then _ _ _ _ _ (wide .put-field2 .ensures)
+    (puts-then _ _ _ _ _ (wanted .put-field3 .ensures)
+    (puts-one _ _ _ (end .put .ensures))))
 
 pub put-node-spec : {M : Type 1} → statement M
 put-node-spec =

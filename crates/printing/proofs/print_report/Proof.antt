@@ -23,7 +23,9 @@ small : (c : tie.After-shared-slice-known) → Bytes (c .before .args .bytes .no
 small c i = omega (arith, c .shared-slice-known .given i)
 
 returns : tie.Need-returns
-returns c = whole-taken _ _ _ _ _ (report-short _ (small (c .before .before .before .before .before))) (c .before .before .before .report .ensures) (c .print-written .ensures)
+returns c =
+    let told = c .before .before .before in
+    whole-taken _ _ _ _ _ (report-short _ (small (told .before .before))) (told .report .ensures) (c .print-written .ensures)
 
 pub print-report-spec : {M : Type 1} → statement M
 print-report-spec =

@@ -27,7 +27,8 @@ unfolding textOf
 piece p ps m k a b = omega (arith, length-append p (textOf ps))
 
 -- A named figure before others.
-pub field : (name : List ℕ) (n : ℕ) (ps : List (List ℕ)) (k : ℕ) → length name ≤ 15 → Figure n → length (textOf ps) ≤ k → length (textOf (name ∷ decimal n ∷ ps)) ≤ length name + (5 + k)
+pub field : (name : List ℕ) (n : ℕ) (ps : List (List ℕ)) (k : ℕ) → length name ≤ 15 → Figure n → length (textOf ps) ≤ k
+    → length (textOf (name ∷ decimal n ∷ ps)) ≤ length name + (5 + k)
 field name n ps k a f b = piece name (decimal n ∷ ps) (length name) (5 + k) (omega arith) (piece (decimal n) ps 5 k (figure n f) b)
 
 pub ended : length (textOf (letters "\n" ∷ [])) ≤ 1

@@ -39,7 +39,9 @@ returns c =
     let end = c .before .before in
     let counted = end .before .before .before .before .before in
     let linked = counted .before .before .before .before .before .before in
-    puts-then _ _ _ _ _ (linked .put-field .ensures) (puts-then _ _ _ _ _ (counted .put-field2 .ensures ∙ field-as _ _ _ _ (counted .before .flow-count .ensures)) (puts-one _ _ _ (end .put .ensures)))
+    puts-then _ _ _ _ _ (linked .put-field .ensures)
+    (puts-then _ _ _ _ _ (counted .put-field2 .ensures ∙ field-as _ _ _ _ (counted .before .flow-count .ensures))
+    (puts-one _ _ _ (end .put .ensures)))
 
 pub put-counts-spec : {M : Type 1} → statement M
 put-counts-spec =

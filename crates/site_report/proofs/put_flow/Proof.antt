@@ -51,7 +51,12 @@ returns c =
     let rated = due .before .before .before .before .before in
     let entered = rated .before .before .before .before .before in
     let named = entered .before .before .before .before .before in
-    puts-then _ _ _ _ _ (named .put-field .ensures) (puts-then _ _ _ _ _ (entered .put-field2 .ensures) (puts-then _ _ _ _ _ (rated .put-field3 .ensures) (puts-then _ _ _ _ _ (due .put-field4 .ensures) (puts-then _ _ _ _ _ (bounded .put-field5 .ensures) (puts-one _ _ _ (end .put .ensures))))))
+    puts-then _ _ _ _ _ (named .put-field .ensures)
+    (puts-then _ _ _ _ _ (entered .put-field2 .ensures)
+    (puts-then _ _ _ _ _ (rated .put-field3 .ensures)
+    (puts-then _ _ _ _ _ (due .put-field4 .ensures)
+    (puts-then _ _ _ _ _ (bounded .put-field5 .ensures)
+    (puts-one _ _ _ (end .put .ensures))))))
 
 pub put-flow-spec : {M : Type 1} → statement M
 put-flow-spec =

@@ -37,7 +37,9 @@ returns c =
     let based = end .before .before .before .before in
     let under = based .before .before .before .before .before in
     let named = under .before .before .before .before .before in
-    puts-then _ _ _ _ _ (named .put-field .ensures) (puts-then _ _ _ _ _ (under .put-field2 .ensures) (puts-then _ _ _ _ _ (based .put-field3 .ensures) (end .put-slots .ensures)))
+    puts-then _ _ _ _ _ (named .put-field .ensures)
+    (puts-then _ _ _ _ _ (under .put-field2 .ensures)
+    (puts-then _ _ _ _ _ (based .put-field3 .ensures) (end .put-slots .ensures)))
 
 pub put-link-spec : {M : Type 1} → statement M
 put-link-spec =

@@ -141,7 +141,8 @@ fewest-decimal (suc (suc k)) n (a, l, m) =
     let q : 10 ^ suc k ≡ 10 ^ k * 10 = pow-suc 10 k in
     let o : 1 ≤ 10 ^ k = pow-one k in
     let small : 10 ^ k ≤ n / 10 = omega arith in
-    let e : digits 10 (suc k) (n / 10) ≡ decimal (n / 10) = fewest-decimal (suc k) (n / 10) (omega arith, omega arith, λ s. subst (λ (j : ℕ). 10 ^ j ≤ n / 10) (omega arith) small) in
+    let e : digits 10 (suc k) (n / 10) ≡ decimal (n / 10) =
+    fewest-decimal (suc k) (n / 10) (omega arith, omega arith, λ s. subst (λ (j : ℕ). 10 ^ j ≤ n / 10) (omega arith) small) in
     ap (λ (ds : List ℕ). ds ++ (glyph (n % 10) ∷ [])) e ∙ rw (lt-ltb (n % 10) 10 (omega arith)) (sym (decimal-step n (omega arith)))
 
 pub spelled : (k n : ℕ) (ds : List ℕ) → take k ds ≡ digits 10 k n → Fewest 10 1 n k → take (k - 0) ds ≡ decimal n

@@ -18,7 +18,9 @@ same-length c = search needs
 
 -- src/lib.rt:47:1
 returns : tie.Need-returns
-returns c = puts-then _ _ _ _ _ (puts-one _ _ _ (c .before .before .before .before .before .before .put .ensures)) (puts-one _ _ _ (c .before .before .put-decimal .ensures))
+returns c =
+    let end = c .before .before in
+    puts-then _ _ _ _ _ (puts-one _ _ _ (end .before .before .before .before .put .ensures)) (puts-one _ _ _ (end .put-decimal .ensures))
 
 pub put-field-spec : {M : Type 1} → statement M
 put-field-spec = tie.close (tie.spec put-requires put-decimal-requires same-length returns)

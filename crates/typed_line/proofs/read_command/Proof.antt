@@ -29,7 +29,11 @@ node-line-requires : tie.Need-node-line-requires
 node-line-requires c κs = search needs
 
 returns-2 : tie.Need-returns-2
-returns-2 c = named-node _ _ _ (c .before .before .before .before .before .before .next-word .ensures) (c .before .before .before .before .before .if1 .left) _ (c .before .before .same .ensures) (c .before .if2 .taken) _ (c .node-line .ensures)
+returns-2 c =
+    let node = c .before in
+    let word = node .before .before .before .before .before in
+    named-node _ _ _ (word .next-word .ensures) (node .before .before .before .before .if1 .left) _
+    (node .before .same .ensures) (node .if2 .taken) _ (c .node-line .ensures)
 
 slice-aggregate-same-2 : tie.Need-slice-aggregate-same-2
 slice-aggregate-same-2 c = search needs
@@ -42,12 +46,17 @@ flow-line-requires c κs = search needs
 
 returns-3 : tie.Need-returns-3
 returns-3 c =
-    named-flow _ _ _ (c .before .before .before .before .before .before .before .before .before .next-word .ensures) (c .before .before .before .before .before .before .before .before .if1 .left) _ (c .before .before .before .before .before .same .ensures) (c .before .before .before .before .if2 .left) _
-    (c .before .before .same2 .ensures) (c .before .if3 .taken) _ (c .flow-line .ensures)
+    let flow = c .before in
+    let node = flow .before .before .before in
+    let there = node .before .before .before .before in
+    named-flow _ _ _ (there .before .next-word .ensures) (there .if1 .left) _ (node .before .same .ensures) (node .if2 .left) _
+    (flow .before .same2 .ensures) (flow .if3 .taken) _ (c .flow-line .ensures)
 
 returns-4 : tie.Need-returns-4
 returns-4 c =
-    named-other _ _ _ (c .before .before .before .before .before .before .before .before .next-word .ensures) (c .before .before .before .before .before .before .before .if1 .left) _ (c .before .before .before .before .same .ensures) (c .before .before .before .if2 .left) _
+    let node = c .before .before .before in
+    let there = node .before .before .before .before in
+    named-other _ _ _ (there .before .next-word .ensures) (there .if1 .left) _ (node .before .same .ensures) (node .if2 .left) _
     (c .before .same2 .ensures) (c .if3 .left)
 
 pub read-command-spec : {M : Type 1} → statement M

@@ -98,7 +98,8 @@ makes-joined : (item : ℕ → List (List ℕ)) (command : ℕ → List ℕ) (r 
 unfolding joined
 makes-joined item command zero i w = makes-none
 makes-joined item command (suc r) i w =
-    makes-both (item i) (joined item r (i + 1)) (command i) (joined command r (i + 1)) (w i (omega arith)) (makes-joined item command r (i + 1) (λ k l. w k (omega arith)))
+    makes-both (item i) (joined item r (i + 1)) (command i) (joined command r (i + 1)) (w i (omega arith))
+    (makes-joined item command r (i + 1) (λ k l. w k (omega arith)))
 
 -- One line, which a newline ends.
 module _ (pieces : List (List ℕ)) (line : List ℕ) (is-line : textOf pieces ≡ line ++ (10 ∷ [])) (whole : unmarked (is 10) line ≡ true) where

@@ -85,10 +85,10 @@ module _ (text : List ℕ) (s : ℕ × List ℕ) where
           ∙ sym (ap (λ (ls : List (List ℕ)). puts t (piecesOf ls)) (line-more text at end w (p .few) l)) ∙ p .rest;
     }
 
-    pub putting-last : end ≡ length text → (v : ℕ × List ℕ) → v ≡ put u (255 ∷ []) → v ≡ puts s (piecesOf (linesOf text))
+    pub putting-last : end ≡ length text → (v : ℕ × List ℕ) (code : ℕ) → v ≡ put u (code ∷ []) → code ≡ 255 → v ≡ puts s (piecesOf (linesOf text))
     unfolding piecesOf
-    putting-last l v f =
-        puts-then t u v (pieceOf (typedLine (take (end - at) (drop at text)))) ((255 ∷ []) ∷ []) e (puts-one u v (255 ∷ []) f)
+    putting-last l v code f q =
+        puts-then t u v (pieceOf (typedLine (take (end - at) (drop at text)))) ((255 ∷ []) ∷ []) e (puts-one u v (255 ∷ []) (f ∙ rw q))
         ∙ sym (ap (λ (ls : List (List ℕ)). puts t (piecesOf ls)) (line-last text at end w (p .few) l)) ∙ p .rest
 
   pub put-long : (t : ℕ × List ℕ) → t ≡ puts s (piecesOf (linesOf text)) → length (t .1) ≡ length (s .1)
@@ -126,7 +126,8 @@ module _ (text : List ℕ) where
           × (size + n + length (textOf (piecesOf tail)) ≡ length (planTyped text) + 1)
       unfolding firstWrong piecesOf
       passed tail r =
-          let more : length (textOf (pieceOf t ++ piecesOf tail)) ≡ length (textOf (pieceOf t)) + length (textOf (piecesOf tail)) = text-append (pieceOf t) (piecesOf tail) in
+          let more : length (textOf (pieceOf t ++ piecesOf tail)) ≡ length (textOf (pieceOf t)) + length (textOf (piecesOf tail)) =
+          text-append (pieceOf t) (piecesOf tail) in
           let left : piecesOf (linesOf (drop at text)) ≡ pieceOf t ++ piecesOf tail = rw (r, sym e) in (
             λ other. sym (rw (r, sym e) (right t line (firstWrong tail (line + 1) other) h)) ∙ p .rest other,
             omega (arith, b, more, rw left at (p .sum)),
@@ -150,7 +151,7 @@ module _ (text : List ℕ) where
           let all : size + n ≡ length (planTyped text) = omega (arith, s .1) in
           rw all (s .0 (Length (length (planTyped text))))
 
--- What is storedPlan, by what the check of all lines came to.
+-- What is stored, by what the check of all lines came to.
 pub assembled-long : (text out : List ℕ) → 65535 < length text → (Long, out) ≡ assembledOf text out
 unfolding assembledOf
 assembled-long text out l = rw (lt-ltb _ _ l)

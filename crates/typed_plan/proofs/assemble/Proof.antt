@@ -14,7 +14,10 @@ enum-known-checked : tie.Need-enum-known-checked
 enum-known-checked c = search needs
 
 returns-2 : tie.Need-returns-2
-returns-2 c = assembled-short _ _ (c .before .before .before .before .before .if1 .left) _ (c .before .before .before .before .check .ensures) _ (c .before .before .checked .given .1) (c .if2 .taken)
+returns-2 c =
+    let told = c .before .before in
+    let judged = told .before .before in
+    assembled-short _ _ (judged .before .if1 .left) _ (judged .check .ensures) _ (told .checked .given .1) (c .if2 .taken)
 
 put-plan-requires : tie.Need-put-plan-requires
 put-plan-requires c κs = search needs
@@ -23,7 +26,11 @@ same-length : tie.Need-same-length
 same-length c = search needs
 
 returns-3 : tie.Need-returns-3
-returns-3 c = assembled-stored _ _ (c .before .before .before .before .before .before .before .before .before .if1 .left) _ (c .before .before .before .before .before .before .before .before .check .ensures) _ (c .before .before .before .before .before .before .checked .given .1) (c .before .before .before .before .if2 .left) _ _ (c .before .before .put-plan .ensures)
+returns-3 c =
+    let room = c .before .before .before .before in
+    let told = room .before .before in
+    let judged = told .before .before in
+    assembled-stored _ _ (judged .before .if1 .left) _ (judged .check .ensures) _ (told .checked .given .1) (room .if2 .left) _ _ (c .before .before .put-plan .ensures)
 
 returns-4 : tie.Need-returns-4
 returns-4 c = assembled-told _ _ (c .before .before .if1 .left) _ (c .before .check .ensures) (c .match .keys2)

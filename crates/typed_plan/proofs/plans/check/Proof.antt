@@ -35,16 +35,26 @@ enum-known-typed : tie.Need-enum-known-typed Inv-loop μ-loop
 enum-known-typed c = search needs
 
 returns : tie.Need-returns Inv-loop μ-loop
-returns c = checking-wrong _ _ _ _ _ _ (c .before .before .before .before .before .before .loop .inv) (c .before .before .before .before .before .find .ensures) (c .before .before .before .read-line .ensures) _ _ (c .before .typed .given .1) _
+returns c =
+    let read = c .before .before .before in
+    let found = read .before .before in
+    checking-wrong _ _ _ _ _ _ (found .before .loop .inv) (found .find .ensures) (read .read-line .ensures) _ _ (c .before .typed .given .1) _
 
 command-size-requires : tie.Need-command-size-requires Inv-loop μ-loop
 command-size-requires c κs = search needs
 
 add-size : tie.Need-add-size Inv-loop μ-loop
-add-size c = omega (arith, c .before .before .before .before .before .loop .inv .small, c .before .before .before .before .before .loop .inv .lines, c .before .before .before .before .before .loop .inv .few, c .command-size .ensures, piece-short (c .before .before .read-line .result))
+add-size c =
+    let read = c .before .before in
+    let so-far = read .before .before .before .loop .inv in
+    omega (arith, so-far .small, so-far .lines, so-far .few, c .command-size .ensures, piece-short (read .read-line .result))
 
 returns-2 : tie.Need-returns-2 Inv-loop μ-loop
-returns-2 c = checking-last _ _ _ _ _ _ (c .before .before .before .before .before .before .loop .inv) (c .before .before .before .before .before .find .ensures) (c .before .before .before .read-line .ensures) (c .before .before .match .keys2) _ (c .before .command-size .ensures) (c .if1 .taken)
+returns-2 c =
+    let read = c .before .before .before in
+    let found = read .before .before in
+    checking-last _ _ _ _ _ _ (found .before .loop .inv) (found .find .ensures) (read .read-line .ensures) (c .before .before .match .keys2) _
+    (c .before .command-size .ensures) (c .if1 .taken)
 
 add-at : tie.Need-add-at Inv-loop μ-loop
 add-at c = omega (arith, c .before .before .before .before .before .find .ensures .within)
@@ -53,12 +63,16 @@ add-line : tie.Need-add-line Inv-loop μ-loop
 add-line c = omega (arith, c .before .before .before .before .before .before .loop .inv .lines, c .before .before .before .before .before .before .loop .inv .few)
 
 loop-less : tie.Need-loop-less Inv-loop μ-loop
-loop-less c = omega (arith, c .before .before .before .before .before .find .ensures .within, line-on _ _ _ (c .before .before .before .before .before .find .ensures) (c .before .before .before .before .before .before .loop .inv .few))
+loop-less c =
+    let found = c .before .before .before .before .before in
+    omega (arith, found .find .ensures .within, line-on _ _ _ (found .find .ensures) (found .before .loop .inv .few))
 
 loop-again : tie.Need-loop-again Inv-loop μ-loop
 loop-again c =
-    checking-more _ _ _ _ _ _ (c .before .before .before .before .before .before .loop .inv) (c .before .before .before .before .before .find .ensures) (c .before .before .before .read-line .ensures) (c .before .before .match .keys2) _ (c .before .command-size .ensures)
-    (omega (arith, c .before .before .before .before .before .find .ensures .within))
+    let read = c .before .before .before in
+    let found = read .before .before in
+    checking-more _ _ _ _ _ _ (found .before .loop .inv) (found .find .ensures) (read .read-line .ensures) (c .before .before .match .keys2) _
+    (c .before .command-size .ensures) (omega (arith, found .find .ensures .within))
 
 pub check-spec : {M : Type 1} → statement M
 check-spec =

@@ -47,14 +47,20 @@ same-length c = search needs
 
 returns-2 : tie.Need-returns-2
 unfolding pieceOf
-returns-2 c = rw (c .before .before .before .before .before .before .before .typed .given .1) (puts-one _ _ _ (c .before .before .put .ensures ∙ put-as _ _ _ (c .before .before .before .before .before .node-command .ensures)))
+returns-2 c =
+    let put = c .before .before in
+    let made = put .before .before .before in
+    rw (made .before .before .typed .given .1) (puts-one _ _ _ (put .put .ensures ∙ put-as _ _ _ (made .node-command .ensures)))
 
 same-length-2 : tie.Need-same-length-2
 same-length-2 c = search needs
 
 returns-3 : tie.Need-returns-3
 unfolding pieceOf
-returns-3 c = rw (c .before .before .before .before .before .before .before .typed2 .given .1) (puts-one _ _ _ (c .before .before .put2 .ensures ∙ put-as _ _ _ (c .before .before .before .before .before .flow-command .ensures)))
+returns-3 c =
+    let put = c .before .before in
+    let made = put .before .before .before in
+    rw (made .before .before .typed2 .given .1) (puts-one _ _ _ (put .put2 .ensures ∙ put-as _ _ _ (made .flow-command .ensures)))
 
 returns-4 : tie.Need-returns-4
 unfolding pieceOf puts

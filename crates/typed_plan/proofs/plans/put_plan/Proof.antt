@@ -39,20 +39,34 @@ put-requires c κs = search needs
 
 same-length : tie.Need-same-length Inv-loop μ-loop
 same-length c =
+    let ended = c .before .before .before .before .before in
+    let put = ended .before .before .before in
+    let found = put .before .before .before in
     put-long _ _ _
-    (putting-last _ _ _ _ _ _ (c .before .before .before .before .before .before .before .before .before .before .before .before .loop .inv) (c .before .before .before .before .before .before .before .before .before .before .before .find .ensures) (c .before .before .before .before .before .before .before .before .put-line .ensures) (c .before .before .before .before .before .if1 .taken) _ (c .before .before .put .ensures))
+    (putting-last _ _ _ _ _ _ (found .before .loop .inv) (found .find .ensures) (put .put-line .ensures) (ended .if1 .taken) _ _
+    (c .before .before .put .ensures) (omega arith))
 
 returns : tie.Need-returns Inv-loop μ-loop
-returns c = putting-last _ _ _ _ _ _ (c .before .before .before .before .before .before .before .before .before .before .before .before .loop .inv) (c .before .before .before .before .before .before .before .before .before .before .before .find .ensures) (c .before .before .before .before .before .before .before .before .put-line .ensures) (c .before .before .before .before .before .if1 .taken) _ (c .before .before .put .ensures)
+returns c =
+    let ended = c .before .before .before .before .before in
+    let put = ended .before .before .before in
+    let found = put .before .before .before in
+    putting-last _ _ _ _ _ _ (found .before .loop .inv) (found .find .ensures) (put .put-line .ensures) (ended .if1 .taken) _ _
+    (c .before .before .put .ensures) (omega arith)
 
 add-at : tie.Need-add-at Inv-loop μ-loop
 add-at c = omega (arith, c .before .before .before .before .before .before .find .ensures .within)
 
 loop-less : tie.Need-loop-less Inv-loop μ-loop
-loop-less c = omega (arith, c .before .before .before .before .before .before .find .ensures .within, line-on _ _ _ (c .before .before .before .before .before .before .find .ensures) (c .before .before .before .before .before .before .before .loop .inv .few))
+loop-less c =
+    let found = c .before .before .before .before .before .before in
+    omega (arith, found .find .ensures .within, line-on _ _ _ (found .find .ensures) (found .before .loop .inv .few))
 
 loop-again : tie.Need-loop-again Inv-loop μ-loop
-loop-again c = putting-more _ _ _ _ _ _ (c .before .before .before .before .before .before .before .loop .inv) (c .before .before .before .before .before .before .find .ensures) (c .before .before .before .put-line .ensures) (omega (arith, c .before .before .before .before .before .before .find .ensures .within))
+loop-again c =
+    let put = c .before .before .before in
+    let found = put .before .before .before in
+    putting-more _ _ _ _ _ _ (found .before .loop .inv) (found .find .ensures) (put .put-line .ensures) (omega (arith, found .find .ensures .within))
 
 pub put-plan-spec : {M : Type 1} → statement M
 put-plan-spec =

@@ -1,0 +1,2 @@
+-- What is proved of lines of numbers.
+pub mod Operands
