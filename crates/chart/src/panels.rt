@@ -54,7 +54,7 @@ fn with_panel(size: Size, site: Site, parent: u8) -> Size
     if children == 0 {
         return size;
     }
-    let scale = scale_of(frame_under(site, parent) as usize);
+    let scale = scale_of(frame_under(site, parent) as u32);
     let height = size.height + panel_height(children);
     let width = 448 + scale.span;
     if width < size.width {
@@ -101,7 +101,7 @@ fn put_shown(out: &mut [u8], at: usize, frame: u16) -> usize {
 fn print_title(site: Site, parent: u8, frame: u16, y: u64) {
     let mut line = io::buffer();
     let base = schedule::base_under(site, parent);
-    let idle = idle_count(site, parent, frame as usize);
+    let idle = idle_count(site, parent, frame as u32);
     let begun = text::put_field(&mut line, 0, b"<g id=\"node", parent as u64);
     let low = text::put_field(&mut line, begun, b"\" transform=\"translate(0 ", y);
     let bold = slices::put(
@@ -196,7 +196,7 @@ fn print_panel(site: Site, parent: u8, loads: [u32; 63], y: u64) -> u64
     }
     let frame = frame_under(site, parent);
     print_title(site, parent, frame, y);
-    print_rows(site, parent, loads, children, scale_of(frame as usize));
+    print_rows(site, parent, loads, children, scale_of(frame as u32));
     io::write_all(1, b"</g>\n");
     y + panel_height(children)
 }

@@ -9,15 +9,15 @@ ghost use Rattle.chart.specs.Inner.{Scaled};
 
 // How many slots are shown, the width of one, which have a number, how far these numbers are apart, and the width of all slots.
 pub(crate) struct Scale {
-    pub slots: usize,
+    pub slots: u32,
     pub width: u64,
-    pub step: usize,
+    pub step: u32,
     pub spacing: u64,
     pub span: u64,
 }
 
 // At most 128 slots are shown. A number of three digits takes less than 28 pixels.
-pub(crate) fn scale_of(slots: usize) -> Scale
+pub(crate) fn scale_of(slots: u32) -> Scale
     ensures { λ r. ⌜ (r .slots ≡ min slots 128) × Scaled r ⌝ }
 {
     if slots <= 36 {
@@ -56,7 +56,7 @@ pub(crate) fn scale_of(slots: usize) -> Scale
     }
 }
 
-fn put_number(out: &mut [u8], at: usize, x: u64, y: u64, slot: usize) -> usize {
+fn put_number(out: &mut [u8], at: usize, x: u64, y: u64, slot: u32) -> usize {
     let left = text::put_field(out, at, b"<text x=\"", x);
     let low = text::put_field(out, left, b"\" y=\"", y);
     let named = text::put_field(out, low, b"\">", slot as u64);

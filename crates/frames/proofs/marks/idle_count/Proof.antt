@@ -1,31 +1,27 @@
 -- Right because `Idled` holds: so many of the slots below this one are idle; slots - slot falls.
 use borrow.Author.Needs.{needs}
 use Prim.Native.Nat.{_≤_, _-_}
-use mathlib.Core.Path.{_≡_, _∙_}
+use mathlib.Core.Path.{sym, _∙_}
 use mathlib.Core.Logic.{inl, inr}
 use native.Mathlib.Omega.{arith}
-use Rattle.site.specs.Sites.{used}
-use Rattle.frames.proofs.Laws.Slots.{links-few, idle-test, Idled, idled-start, idled-more, idled-same, idled-end}
+use Rattle.frames.proofs.Laws.Slots.{Idled, idled-start, idled-more, idled-same, idled-end}
 use Rattle.frames.proofs.marks.idle_count.Statement.{statement}
 use Rattle.frames.proofs.marks.idle_count.Tie as tie
 
 abbrev Inv-loop : tie.InvT-loop
-Inv-loop parent slots site links count₀ slot₀ count slot = (links ≡ used (site .links)) × (slot ≤ slots) × Idled site parent slot count
+Inv-loop site parent slots count₀ slot₀ count slot = (slot ≤ slots) × Idled site parent slot count
 
 abbrev μ-loop : tie.MeasureT-loop
-μ-loop parent slots site links count₀ slot₀ count slot = slots - slot
-
-link-count-requires : tie.Need-link-count-requires Inv-loop μ-loop
-link-count-requires c κs = search needs
+μ-loop site parent slots count₀ slot₀ count slot = slots - slot
 
 loop-holds : tie.Need-loop-holds Inv-loop μ-loop
-loop-holds c = (c .link-count .ensures, omega arith, idled-start _ _)
+loop-holds c = (omega arith, idled-start _ _)
 
-is-busy-requires : tie.Need-is-busy-requires Inv-loop μ-loop
-is-busy-requires c κs = (links-few _ _ (c .before .before .before .before .before .before .before .before .before .link-count .ensures) .1, search needs, search needs, search needs)
+is-idle-requires : tie.Need-is-idle-requires Inv-loop μ-loop
+is-idle-requires c κs = search needs
 
 add-count : tie.Need-add-count Inv-loop μ-loop
-add-count c = omega (arith, c .before .before .before .before .before .before .before .before .before .before .loop .inv .2 .few)
+add-count c = omega (arith, c .before .before .before .loop .inv .1 .few)
 
 add-slot : tie.Need-add-slot Inv-loop μ-loop
 add-slot c = search needs
@@ -35,15 +31,15 @@ loop-less c = search needs
 
 loop-again : tie.Need-loop-again Inv-loop μ-loop
 loop-again c =
-    let sofar = c .before .before .before .before .before .before .before .before .before .before .loop .inv in
-    let busy = c .before .is-busy .ensures in
+    let sofar = c .before .before .before .loop .inv in
+    let test = c .before .is-idle .ensures in
     elim (c .if1 .came) [
-      | inl w ↦ (sofar .0, omega arith, idled-more _ _ _ _ _ (sofar .2) (idle-test _ _ _ _ _ busy (sofar .0) ∙ w .0 .taken) (w .1))
-      | inr w ↦ (sofar .0, omega arith, idled-same _ _ _ _ _ (sofar .2) (idle-test _ _ _ _ _ busy (sofar .0) ∙ w .0 .left) (w .1))
+      | inl w ↦ (omega arith, idled-more _ _ _ _ _ (sofar .1) (sym test ∙ w .0 .taken) (w .1))
+      | inr w ↦ (omega arith, idled-same _ _ _ _ _ (sofar .1) (sym test ∙ w .0 .left) (w .1))
     ]
 
 returns : tie.Need-returns Inv-loop μ-loop
-returns c = idled-end _ _ _ _ _ (c .before .loop .inv .2) (omega arith)
+returns c = idled-end _ _ _ _ _ (c .before .loop .inv .1) (omega arith)
 
 pub idle-count-spec : {M : Type 1} → statement M
 idle-count-spec =
@@ -51,9 +47,8 @@ idle-count-spec =
     (tie.spec
     Inv-loop
     μ-loop
-    link-count-requires
     loop-holds
-    is-busy-requires
+    is-idle-requires
     add-count
     add-slot
     loop-less
