@@ -1,7 +1,7 @@
 // The table of the flows.
 use crate::page::print_stripes;
-use frames::put_route;
 use printing::print_front;
+use route_text::put_route;
 use site::Site;
 ghost use Prim.Native.Nat.{_≤_};
 

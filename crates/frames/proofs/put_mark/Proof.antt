@@ -2,8 +2,8 @@
 use borrow.Author.Needs.{needs}
 use Rattle.text.proofs.Laws.Put.{puts-one, puts-then}
 use Rattle.frames.specs.Marks.{mark}
-use Rattle.frames.proofs.marks.put_mark.Statement.{statement}
-use Rattle.frames.proofs.marks.put_mark.Tie as tie
+use Rattle.frames.proofs.put_mark.Statement.{statement}
+use Rattle.frames.proofs.put_mark.Tie as tie
 
 slice-aggregate-put-field : tie.Need-slice-aggregate-put-field
 slice-aggregate-put-field c = search needs

@@ -1,10 +1,10 @@
-// A flow's route as text.
+// A route as text, link by link from its entry node up.
 use tree::parent_of;
 ghost use mathlib.Core.Path.{_≡_};
 ghost use Rattle.text.specs.Put.{puts};
 ghost use Rattle.text.specs.Listed.{each};
 ghost use Rattle.tree.specs.Tree.{route};
-ghost use Rattle.frames.specs.Routes.{hop};
+ghost use Rattle.route_text.specs.Routes.{hop};
 
 fn put_hop(out: &mut [u8], at: usize, node: u8) -> usize
     ensures { λ r. ⌜ (r, now (out .exit)) ≡ puts (at, now (out .entry)) (hop node) ⌝ }

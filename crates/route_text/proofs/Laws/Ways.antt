@@ -8,7 +8,7 @@ use Rattle.tree.proofs.Laws.Tree.{route-up, route-end}
 use Rattle.text.specs.Put.{puts}
 use Rattle.text.specs.Listed.{each}
 use Rattle.text.proofs.Laws.Put.{puts-long, puts-then}
-use Rattle.frames.specs.Routes.{hop}
+use Rattle.route_text.specs.Routes.{hop}
 
 -- The space t has the links below node n: those from n up make it what all from the entry node up make of s.
 pub record Climbed (parents : List ℕ) (entry : ℕ) (s : ℕ × List ℕ) (n : ℕ) (t : ℕ × List ℕ) : Type 0 where

@@ -1,9 +1,9 @@
 -- Right because `Climbed` holds: the links below the node are put; its number falls.
 use borrow.Author.Needs.{needs}
 use native.Mathlib.Omega.{arith}
-use Rattle.frames.proofs.Laws.Ways.{Climbed, climbed-start, climbed-more, climbed-end, climbed-long}
-use Rattle.frames.proofs.routes.put_route.Statement.{statement}
-use Rattle.frames.proofs.routes.put_route.Tie as tie
+use Rattle.route_text.proofs.Laws.Ways.{Climbed, climbed-start, climbed-more, climbed-end, climbed-long}
+use Rattle.route_text.proofs.put_route.Statement.{statement}
+use Rattle.route_text.proofs.put_route.Tie as tie
 
 abbrev Inv-loop : tie.InvT-loop
 Inv-loop out₀ at parents entry taken₀ node₀ out taken node = Climbed parents entry (at, out₀) node (taken, out)

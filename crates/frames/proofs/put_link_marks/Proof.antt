@@ -2,8 +2,8 @@
 use borrow.Author.Needs.{needs}
 use native.Mathlib.Omega.{arith}
 use Rattle.frames.proofs.Laws.Slots.{marks-link, marks-root, marks-beyond}
-use Rattle.frames.proofs.marks.put_link_marks.Statement.{statement}
-use Rattle.frames.proofs.marks.put_link_marks.Tie as tie
+use Rattle.frames.proofs.put_link_marks.Statement.{statement}
+use Rattle.frames.proofs.put_link_marks.Tie as tie
 
 returns : tie.Need-returns
 returns c = marks-root (c .before .before .args .t3) _ (c .before .before .args .slots) _ (c .if1 .taken)

@@ -5,8 +5,8 @@ use mathlib.Core.Path.{sym, _∙_}
 use mathlib.Core.Logic.{inl, inr}
 use native.Mathlib.Omega.{arith}
 use Rattle.frames.proofs.Laws.Slots.{Idled, idled-start, idled-more, idled-same, idled-end}
-use Rattle.frames.proofs.marks.idle_count.Statement.{statement}
-use Rattle.frames.proofs.marks.idle_count.Tie as tie
+use Rattle.frames.proofs.idle_count.Statement.{statement}
+use Rattle.frames.proofs.idle_count.Tie as tie
 
 abbrev Inv-loop : tie.InvT-loop
 Inv-loop site parent slots count₀ slot₀ count slot = (slot ≤ slots) × Idled site parent slot count

@@ -8,8 +8,8 @@ use Rattle.pinwheel.specs.Rule.{sends}
 use Rattle.report_lines.proofs.Laws.Lines.{Printed, printed-start, printed-line, printed-none, printed-all, printed-long}
 use Rattle.frames.specs.Marks.{markIf, marks}
 use Rattle.frames.proofs.Laws.Slots.{mark-here, mark-none}
-use Rattle.frames.proofs.marks.put_marks.Statement.{statement}
-use Rattle.frames.proofs.marks.put_marks.Tie as tie
+use Rattle.frames.proofs.put_marks.Statement.{statement}
+use Rattle.frames.proofs.put_marks.Tie as tie
 
 abbrev Inv-loop : tie.InvT-loop
 Inv-loop out₀ at period offset slots taken₀ slot₀ out taken slot = (slot ≤ slots) × Printed (markIf (sends period offset)) (at, out₀) slot (taken, out)

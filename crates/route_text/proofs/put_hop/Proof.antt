@@ -1,9 +1,9 @@
 -- Right because the sign is put behind the number.
 use borrow.Author.Needs.{needs}
 use Rattle.text.proofs.Laws.Put.{puts-one, puts-then}
-use Rattle.frames.specs.Routes.{hop}
-use Rattle.frames.proofs.routes.put_hop.Statement.{statement}
-use Rattle.frames.proofs.routes.put_hop.Tie as tie
+use Rattle.route_text.specs.Routes.{hop}
+use Rattle.route_text.proofs.put_hop.Statement.{statement}
+use Rattle.route_text.proofs.put_hop.Tie as tie
 
 put-decimal-requires : tie.Need-put-decimal-requires
 put-decimal-requires c κs = search needs

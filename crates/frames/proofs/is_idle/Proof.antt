@@ -4,8 +4,8 @@ use Prim.Native.Nat.{_≤_, _-_}
 use mathlib.Core.Path.{sym, _∙_}
 use mathlib.Core.Logic.{inl, inr}
 use Rattle.frames.proofs.Laws.Slots.{links-few, Silent, silent-start, silent-met, silent-child, silent-other, silent-end}
-use Rattle.frames.proofs.marks.is_idle.Statement.{statement}
-use Rattle.frames.proofs.marks.is_idle.Tie as tie
+use Rattle.frames.proofs.is_idle.Statement.{statement}
+use Rattle.frames.proofs.is_idle.Tie as tie
 
 abbrev Inv-loop : tie.InvT-loop
 Inv-loop parent slot site links i₀ i = (links ≤ 63) × Silent site parent slot links i

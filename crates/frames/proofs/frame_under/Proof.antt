@@ -3,8 +3,8 @@ use borrow.Author.Needs.{needs}
 use Prim.Native.Nat.{_≤_}
 use mathlib.Core.Path.{refl}
 use Rattle.frames.proofs.Laws.Slots.{links-few, Longest, longest-start, longest-child, longest-other, longest-end}
-use Rattle.frames.proofs.marks.frame_under.Statement.{statement}
-use Rattle.frames.proofs.marks.frame_under.Tie as tie
+use Rattle.frames.proofs.frame_under.Statement.{statement}
+use Rattle.frames.proofs.frame_under.Tie as tie
 
 abbrev Inv-loop : tie.InvT-loop
 Inv-loop parent site longest₀ i₀ longest i = (i₀ ≤ 63) × Longest site parent i₀ i longest

@@ -7,8 +7,8 @@ use native.Mathlib.Omega.{arith}
 use Rattle.report_lines.proofs.Laws.Lines.{Printed, printed-start, printed-line, printed-none, printed-all, printed-long}
 use Rattle.frames.specs.Marks.{idle, markIf, marks}
 use Rattle.frames.proofs.Laws.Slots.{mark-here, mark-none}
-use Rattle.frames.proofs.marks.put_idle_marks.Statement.{statement}
-use Rattle.frames.proofs.marks.put_idle_marks.Tie as tie
+use Rattle.frames.proofs.put_idle_marks.Statement.{statement}
+use Rattle.frames.proofs.put_idle_marks.Tie as tie
 
 abbrev Inv-loop : tie.InvT-loop
 Inv-loop out₀ at site parent slots taken₀ slot₀ out taken slot = (slot ≤ slots) × Printed (markIf (idle site parent)) (at, out₀) slot (taken, out)

@@ -1,7 +1,7 @@
 -- Right because the larger of the two is the one that the other is below.
 use native.Mathlib.Omega.{arith}
-use Rattle.frames.proofs.marks.longer.Statement.{statement}
-use Rattle.frames.proofs.marks.longer.Tie as tie
+use Rattle.frames.proofs.longer.Statement.{statement}
+use Rattle.frames.proofs.longer.Tie as tie
 
 returns : tie.Need-returns
 returns c = omega arith
