@@ -9,16 +9,16 @@ use borrow.Author.Tests.{eq-eqb, ne-eqb, lt-ltb, le-ltb, lt-leb, le-leb}
 use native.Mathlib.Numerals.{add-one}
 use native.Mathlib.Omega.{arith}
 use Rattle.lists.specs.Search.{any}
-use Rattle.lists.specs.Lists.{largest, joined, sumTo}
+use Rattle.lists.specs.Lists.{largest, sumTo}
 use Rattle.pinwheel.specs.Rule.{sends}
 use Rattle.lists.proofs.Laws.Search.{any-hit, any-miss, any-end}
-use Rattle.lists.proofs.Laws.Items.{joined-same}
+use Rattle.lists.proofs.Laws.Items.{joined-same, joined-none}
 use Rattle.site.specs.declared.Site.{Site}
 use Rattle.site.specs.Sites.{used}
 use Rattle.tree.specs.Tree.{ofLink}
 use Rattle.schedule.specs.Schedule.{gapsFrom, linkSends}
 use Rattle.text.specs.Put.{puts}
-use Rattle.frames.specs.Marks.{frameOf, mark, markIf, marks, idle, idleCount}
+use Rattle.frames.specs.Marks.{frameOf, mark, markIf, marks, idle}
 
 pub links-few : (links n : ℕ) → n ≡ used links → (n ≤ links) × (n ≤ 63)
 unfolding used
@@ -42,24 +42,19 @@ sends-link : (s : Site) (i t : ℕ) → i < s .links → sends (getD (s .periods
 unfolding linkSends ofLink
 sends-link s i t l = rw (add-one i, lt-ltb 0 (suc i) (omega arith), le-leb (suc i) (s .links) (omega arith))
 
-pub marks-link : (s : Site) (n slots period offset : ℕ) (t u : ℕ × List ℕ) → 0 < n → n ≤ s .links → period ≡ ofLink (s .periods) n → offset ≡ ofLink (s .offsets) n
-    → u ≡ puts t (marks (sends period offset) slots) → u ≡ puts t (marks (linkSends s n) slots)
+pub marks-link : (s : Site) (n slots period offset : ℕ) (t u : ℕ × List ℕ) → 0 < n → n ≤ s .links → period ≡ ofLink (s .periods) n
+    → offset ≡ ofLink (s .offsets) n → u ≡ puts t (marks (sends period offset) slots) → u ≡ puts t (marks (linkSends s n) slots)
 unfolding linkSends
 marks-link s n slots period offset t u l h a b e =
     e ∙ ap (λ (pieces : List (List ℕ)). puts t pieces) (marks-same _ _ slots (λ k. rw (a, b, lt-ltb 0 n l, le-leb n (s .links) h)))
 
-marks-never : (test : ℕ → Bool) (slots i : ℕ) → ((t : ℕ) → test t ≡ false) → joined (markIf test) slots i ≡ []
-unfolding joined markIf
-marks-never test zero i e = refl
-marks-never test (suc slots) i e = rw (e i, marks-never test slots (i + 1) e)
-
 pub marks-root : (s : Site) (n slots : ℕ) (t : ℕ × List ℕ) → n ≡ 0 → t ≡ puts t (marks (linkSends s n) slots)
 unfolding marks puts linkSends
-marks-root s n slots t e = rw (marks-never (linkSends s n) slots 0 (λ k. rw (le-ltb 0 n (omega arith))))
+marks-root s n slots t e = rw (joined-none (markIf (linkSends s n)) slots 0 (λ k h. mark-none _ k (rw (le-ltb 0 n (omega arith)))))
 
 pub marks-beyond : (s : Site) (n slots : ℕ) (t : ℕ × List ℕ) → s .links < n → t ≡ puts t (marks (linkSends s n) slots)
 unfolding marks puts linkSends
-marks-beyond s n slots t l = rw (marks-never (linkSends s n) slots 0 (λ k. rw (lt-ltb 0 n (omega arith), lt-leb n (s .links) l)))
+marks-beyond s n slots t l = rw (joined-none (markIf (linkSends s n)) slots 0 (λ k h. mark-none _ k (rw (lt-ltb 0 n (omega arith), lt-leb n (s .links) l))))
 
 -- The links before index i are no children of p that send in slot t, so that the answer lies in the rest of the n links.
 module _ (s : Site) (p t n : ℕ) where
@@ -93,28 +88,28 @@ module _ (s : Site) (p t n : ℕ) where
   pub silent-end : (i : ℕ) → Silent i → n ≤ i → true ≡ idle s p t
   silent-end i v l = sym (v .rest ∙ ap not (any-end _ n i l))
 
--- So many of the slots below n are idle.
-module _ (s : Site) (p : ℕ) where
-  pub record Idled (n count : ℕ) : Type 0 where
+-- So many of the numbers below n have a test.
+module _ (test : ℕ → Bool) where
+  pub record Counted (n count : ℕ) : Type 0 where
     pub few : count ≤ n
-    pub is : count ≡ idleCount s p n
+    pub is : count ≡ sumTo (λ t. cond (test t) 1 0) n
 
-  pub idled-start : Idled 0 0
-  unfolding idleCount sumTo
-  idled-start = record { few = omega arith; is = refl }
+  pub counted-start : Counted 0 0
+  unfolding sumTo
+  counted-start = record { few = omega arith; is = refl }
 
-  idled-next : (n one : ℕ) → cond (idle s p n) 1 0 ≡ one → idleCount s p (n + 1) ≡ idleCount s p n + one
-  unfolding idleCount sumTo
-  idled-next n one e = rw (add-one n, e)
+  counted-next : (n one : ℕ) → cond (test n) 1 0 ≡ one → sumTo (λ t. cond (test t) 1 0) (n + 1) ≡ sumTo (λ t. cond (test t) 1 0) n + one
+  unfolding sumTo
+  counted-next n one e = rw (add-one n, e)
 
-  pub idled-more : (n count m : ℕ) → Idled n count → idle s p n ≡ true → m ≡ count + 1 → Idled (n + 1) m
-  idled-more n count m c e q = record { few = omega (arith, c .few); is = omega (arith, c .is, idled-next n 1 (rw e)) }
+  pub counted-more : (n count m : ℕ) → Counted n count → test n ≡ true → m ≡ count + 1 → Counted (n + 1) m
+  counted-more n count m c e q = record { few = omega (arith, c .few); is = omega (arith, c .is, counted-next n 1 (rw e)) }
 
-  pub idled-same : (n count m : ℕ) → Idled n count → idle s p n ≡ false → m ≡ count → Idled (n + 1) m
-  idled-same n count m c e q = record { few = omega (arith, c .few); is = omega (arith, c .is, idled-next n 0 (rw e)) }
+  pub counted-same : (n count m : ℕ) → Counted n count → test n ≡ false → m ≡ count → Counted (n + 1) m
+  counted-same n count m c e q = record { few = omega (arith, c .few); is = omega (arith, c .is, counted-next n 0 (rw e)) }
 
-  pub idled-end : (n m count : ℕ) → Idled n count → n ≡ m → count ≡ idleCount s p m
-  idled-end n m count c e = c .is ∙ rw e
+  pub counted-end : (n m count : ℕ) → Counted n count → n ≡ m → count ≡ sumTo (λ t. cond (test t) 1 0) m
+  counted-end n m count c e = c .is ∙ rw e
 
 -- The largest period of p's children from index i on.
 module _ (s : Site) (p n : ℕ) where
@@ -126,7 +121,8 @@ module _ (s : Site) (p n : ℕ) where
   unfolding gapsFrom largest
   longest-start = let e : n - n ≡ 0 = omega arith in record { upto = omega arith; is = rw e }
 
-  pub longest-child : (i j longest r : ℕ) → Longest i longest → j ≡ i - 1 → 0 < i → getD (s .parents) j 0 ≡ p → r ≡ max (getD (s .periods) j 0) longest → Longest j r
+  pub longest-child : (i j longest r : ℕ) → Longest i longest → j ≡ i - 1 → 0 < i → getD (s .parents) j 0 ≡ p
+      → r ≡ max (getD (s .periods) j 0) longest → Longest j r
   unfolding gapsFrom largest
   longest-child i j longest r v a l e m =
       let k : n - j ≡ suc (n - (j + 1)) = omega arith in

@@ -37,7 +37,9 @@ loop-less : tie.Need-loop-less Inv-loop μ-loop
 loop-less c = search needs
 
 loop-again : tie.Need-loop-again Inv-loop μ-loop
-loop-again c = (search needs, longest-child _ _ _ _ _ _ _ (c .before .before .before .before .before .loop .inv .1) refl (search needs) (c .before .before .if1 .taken) (c .longer .ensures))
+loop-again c =
+    let sofar = c .before .before .before .before .before .loop .inv in
+    (search needs, longest-child _ _ _ _ _ _ _ (sofar .1) refl (search needs) (c .before .before .if1 .taken) (c .longer .ensures))
 
 loop-less-2 : tie.Need-loop-less-2 Inv-loop μ-loop
 loop-less-2 c = search needs

@@ -25,8 +25,16 @@ same-length c = search needs
 
 returns-3 : tie.Need-returns-3
 returns-3 c =
-    marks-link (c .before .before .before .before .before .before .before .before .before .before .before .before .before .before .before .args .t3) (c .before .before .before .before .before .before .before .before .before .before .before .before .before .before .before .args .node) (c .before .before .before .before .before .before .before .before .before .before .before .before .before .before .before .args .slots) _ _ _ _ (omega (arith, c .before .before .before .before .before .before .before .before .before .before .before .before .before .if1 .left)) (omega (arith, c .before .before .before .before .before .before .before .before .before .before .before .before .if2 .left))
-    (c .before .before .before .before .before .before .before .before .value-of .ensures) (c .before .before .before .before .value-of2 .ensures) (c .before .before .put-marks .ensures)
+    let end = c .before .before in
+    let offset = end .before .before in
+    let period = offset .before .before .before .before in
+    let within = period .before .before .before .before in
+    let linked = within .before in
+    let start = linked .before .before in
+    marks-link (start .args .t3) (start .args .node) (start .args .slots) _ _ _ _
+    (omega (arith, linked .if1 .left))
+    (omega (arith, within .if2 .left))
+    (period .value-of .ensures) (offset .value-of2 .ensures) (end .put-marks .ensures)
 
 pub put-link-marks-spec : {M : Type 1} → statement M
 put-link-marks-spec =

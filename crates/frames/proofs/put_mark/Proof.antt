@@ -22,7 +22,10 @@ same-length c = search needs
 
 returns : tie.Need-returns
 unfolding mark
-returns c = puts-then _ _ _ _ _ (c .before .before .before .before .before .before .before .put-field .ensures) (puts-one _ _ _ (c .before .before .put .ensures))
+returns c =
+    let end = c .before .before in
+    let marked = end .before .before .before .before .before in
+    puts-then _ _ _ _ _ (marked .put-field .ensures) (puts-one _ _ _ (end .put .ensures))
 
 pub put-mark-spec : {M : Type 1} → statement M
 put-mark-spec =

@@ -19,7 +19,10 @@ same-length c = search needs
 
 returns : tie.Need-returns
 unfolding hop
-returns c = puts-then _ _ _ _ _ (puts-one _ _ _ (c .before .before .before .before .before .before .before .put-decimal .ensures)) (puts-one _ _ _ (c .before .before .put .ensures))
+returns c =
+    let end = c .before .before in
+    let named = end .before .before .before .before .before in
+    puts-then _ _ _ _ _ (puts-one _ _ _ (named .put-decimal .ensures)) (puts-one _ _ _ (end .put .ensures))
 
 pub put-hop-spec : {M : Type 1} → statement M
 put-hop-spec =

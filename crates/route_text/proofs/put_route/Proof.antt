@@ -30,7 +30,10 @@ loop-less : tie.Need-loop-less Inv-loop μ-loop
 loop-less c = search needs
 
 loop-again : tie.Need-loop-again Inv-loop μ-loop
-loop-again c = climbed-more _ _ _ _ _ _ _ (c .before .before .before .before .before .before .loop .inv) (c .before .before .before .before .before .parent-of .ensures) (omega arith) (c .before .before .put-hop .ensures)
+loop-again c =
+    let met = c .before .before in
+    let parent = met .before .before .before in
+    climbed-more _ _ _ _ _ _ _ (parent .before .loop .inv) (parent .parent-of .ensures) (omega arith) (met .put-hop .ensures)
 
 pub put-route-spec : {M : Type 1} → statement M
 put-route-spec =
