@@ -15,6 +15,10 @@ slotWidth slots = cond (leb slots 36) 28 (cond (leb slots 64) 16 8)
 unfoldable pub numberStep : ℕ → ℕ
 numberStep slots = cond (leb slots 36) 1 (cond (leb slots 64) 2 4)
 
+-- How far two numbers are apart.
+unfoldable pub spacing : ℕ → ℕ
+spacing slots = slotWidth slots * numberStep slots
+
 -- All slots that are shown, side by side.
 unfoldable pub span : ℕ → ℕ
 span slots = slotWidth slots * shown slots

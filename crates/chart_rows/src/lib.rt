@@ -5,6 +5,6 @@ mod scale;
 pub use rows::put_axis;
 pub use rows::put_idle;
 pub use rows::put_link;
-pub use scale::number_step;
 pub use scale::slot_width;
+pub use scale::spacing_of;
 pub use scale::span_of;

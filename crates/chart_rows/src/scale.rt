@@ -1,6 +1,6 @@
 // How many slots are shown, and how wide.
 ghost use mathlib.Core.Path.{_≡_};
-ghost use Rattle.chart_rows.specs.Scale.{shown, slotWidth, numberStep, span};
+ghost use Rattle.chart_rows.specs.Scale.{shown, slotWidth, numberStep, spacing, span};
 
 pub(crate) fn shown_of(slots: u32) -> u32
     ensures { λ r. ⌜ r ≡ shown slots ⌝ }
@@ -25,7 +25,7 @@ pub fn slot_width(slots: u32) -> u32
 }
 
 // How many slots lie from one number to the next.
-pub fn number_step(slots: u32) -> u32
+pub(crate) fn number_step(slots: u32) -> u32
     ensures { λ r. ⌜ r ≡ numberStep slots ⌝ }
 {
     if slots <= 36 {
@@ -35,6 +35,13 @@ pub fn number_step(slots: u32) -> u32
         return 2;
     }
     4
+}
+
+// How far two numbers are apart.
+pub fn spacing_of(slots: u32) -> u32
+    ensures { λ r. ⌜ r ≡ spacing slots ⌝ }
+{
+    slot_width(slots) * number_step(slots)
 }
 
 // The width of all slots that are shown.

@@ -5,7 +5,7 @@ use mathlib.Core.Logic.{inl, inr}
 use native.Mathlib.Omega.{arith}
 use Rattle.report_lines.proofs.Laws.Lines.{Printed, printed-start, printed-line, printed-none, printed-all, printed-long}
 use Rattle.chart_rows.specs.Rows.{numberIf}
-use Rattle.chart_rows.proofs.Laws.Scale.{width-most, step-some}
+use Rattle.chart_rows.proofs.Laws.Scale.{width-fits, step-fits}
 use Rattle.chart_rows.proofs.Laws.Rows.{number-here, number-none}
 use Rattle.chart_rows.proofs.rows.put_numbers.Statement.{statement}
 use Rattle.chart_rows.proofs.rows.put_numbers.Tie as tie
@@ -29,10 +29,10 @@ loop-holds : tie.Need-loop-holds Inv-loop μ-loop
 loop-holds c = (omega arith, printed-start _ _)
 
 rem-if1 : tie.Need-rem-if1 Inv-loop μ-loop
-rem-if1 c = omega (arith, step-some _ _ (c .before .before .number-step .ensures))
+rem-if1 c = step-fits _ _ (c .before .before .number-step .ensures) .0
 
 middle-of-requires : tie.Need-middle-of-requires Inv-loop μ-loop
-middle-of-requires c κs = width-most _ _ (c .before .before .before .before .before .slot-width .ensures)
+middle-of-requires c κs = width-fits _ _ (c .before .before .before .before .before .slot-width .ensures) .1
 
 put-number-requires : tie.Need-put-number-requires Inv-loop μ-loop
 put-number-requires c κs = search needs
