@@ -45,12 +45,14 @@ stripes width top rows =
     letters "<path class=\"stripes\" stroke-dasharray=\"20\" stroke-width=\"" ∷ decimal width ∷ letters "\" d=\"M" ∷ decimal (24 + width / 2) ∷
     letters " " ∷ decimal top ∷ letters "v" ∷ decimal (20 * rows) ∷ letters "\"/>\n" ∷ []
 
+unfoldable pub columns : List (List ℕ)
+columns =
+    letters "<g class=\"grey\" font-size=\"10\"><text x=\"76\" y=\"40\">sends in slots</text><text x=\"216\" y=\"40\">load of capacity</text>"
+    ∷ letters "<text class=\"end\" x=\"416\" y=\"40\">slot</text></g>\n" ∷ []
+
 -- The ground of a panel with so many children, one row more for the idle slots, and what its columns say.
 unfoldable pub ground : ℕ → ℕ → List (List ℕ)
-ground slots children =
-    stripes (400 + span slots) 46 (children + 1)
-    ++ (letters "<g class=\"grey\" font-size=\"10\"><text x=\"76\" y=\"40\">sends in slots</text><text x=\"216\" y=\"40\">load of capacity</text>"
-    ∷ letters "<text class=\"end\" x=\"416\" y=\"40\">slot</text></g>\n" ∷ [])
+ground slots children = stripes (400 + span slots) 46 (children + 1) ++ columns
 
 -- Lines one pixel wide and so far apart, as dashes of a stroke as wide as the rows are high.
 unfoldable pub edges : List ℕ → ℕ → ℕ → ℕ → ℕ → List (List ℕ)

@@ -1,38 +1,33 @@
+-- Right because nothing is told of a frame that is shown whole.
 use borrow.Author.Needs.{needs}
+use Rattle.text.proofs.Laws.Put.{puts-one, puts-then}
+use Rattle.chart_panels.proofs.Laws.Panels.{all-shown, some-shown}
 use Rattle.chart_panels.proofs.panels.put_first_only.Statement.{statement}
 use Rattle.chart_panels.proofs.panels.put_first_only.Tie as tie
-use Rattle.chart_panels.proofs.panels.put_first_only.Reads as reads
-use Rattle.chart_panels.proofs.panels.put_first_only.Lts as lts
-use Rattle.slices.proofs.put.Reads as put-reads
-use Rattle.text.proofs.put_field.Reads as put-field-reads
 
--- src/panels.rt:39:9
 returns : tie.Need-returns
-returns c = ?
+returns c = all-shown _ _ (c .if1 .taken)
 
--- src/panels.rt:41:42
 slice-aggregate-put-field : tie.Need-slice-aggregate-put-field
 slice-aggregate-put-field c = search needs
 
--- src/panels.rt:41:9
 put-field-requires : tie.Need-put-field-requires
 put-field-requires c κs = search needs
 
--- src/panels.rt:42:29
 slice-aggregate-put : tie.Need-slice-aggregate-put
 slice-aggregate-put c = search needs
 
--- src/panels.rt:42:5
 put-requires : tie.Need-put-requires
 put-requires c κs = search needs
 
--- src/panels.rt:35:1
 same-length : tie.Need-same-length
 same-length c = search needs
 
--- src/panels.rt:35:1
 returns-2 : tie.Need-returns-2
-returns-2 c = ?
+returns-2 c =
+    let end = c .before .before in
+    let whole = end .before .before .before .before .before in
+    some-shown _ _ _ (c .before .before .before .before .before .before .before .before .before .before .if1 .left) (puts-then _ _ _ _ _ (whole .put-field .ensures) (puts-one _ _ _ (end .put .ensures)))
 
 pub put-first-only-spec : {M : Type 1} → statement M
 put-first-only-spec =
