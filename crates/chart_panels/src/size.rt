@@ -43,14 +43,14 @@ fn panel_width(children: u8, slots: u32) -> u64
 }
 
 // The height of all panels with what stands above them.
-pub fn panels_height(site: Site) -> u64
+pub fn panels_height(site: Site) -> u32
     ensures { λ r. ⌜ r ≡ panelsHeight site ⌝ }
 {
     let links = site::link_count(site.links);
     let mut height = 84;
     let mut parent = 0;
     while parent <= links {
-        height += panel_height(child_count(site, parent as u8)) as u64;
+        height += panel_height(child_count(site, parent as u8)) as u32;
         parent += 1;
     }
     height

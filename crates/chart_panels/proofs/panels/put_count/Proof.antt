@@ -35,7 +35,8 @@ returns-2 c =
     let named = end .before .before .before .before .before .before in
     let number = named .before .before .before .before in
     counted-many _ _ _ _ (c .before .before .before .before .before .if1 .left)
-    (puts-then _ _ _ _ _ (puts-one _ _ _ (number .put-decimal .ensures)) (puts-then _ _ _ _ _ (puts-one _ _ _ (named .put .ensures)) (puts-one _ _ _ (end .put2 .ensures))))
+    (puts-then _ _ _ _ _ (puts-one _ _ _ (number .put-decimal .ensures))
+    (puts-then _ _ _ _ _ (puts-one _ _ _ (named .put .ensures)) (puts-one _ _ _ (end .put2 .ensures))))
 
 pub put-count-spec : {M : Type 1} → statement M
 put-count-spec =

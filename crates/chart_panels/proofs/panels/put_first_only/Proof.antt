@@ -27,7 +27,8 @@ returns-2 : tie.Need-returns-2
 returns-2 c =
     let end = c .before .before in
     let whole = end .before .before .before .before .before in
-    some-shown _ _ _ (c .before .before .before .before .before .before .before .before .before .before .if1 .left) (puts-then _ _ _ _ _ (whole .put-field .ensures) (puts-one _ _ _ (end .put .ensures)))
+    some-shown _ _ _ (c .before .before .before .before .before .before .before .before .before .before .if1 .left)
+    (puts-then _ _ _ _ _ (whole .put-field .ensures) (puts-one _ _ _ (end .put .ensures)))
 
 pub put-first-only-spec : {M : Type 1} → statement M
 put-first-only-spec =

@@ -59,7 +59,8 @@ returns c =
     let end = c .before .before in
     let edged = end .before .before .before .before .before in
     let wide = edged .before .before .before in
-    grid-as _ _ (wide .before .before .before .before .args .slots) _ _ (wide .span-of .ensures) _ _ (wide .before .before .slot-width .ensures) (wide .before .spacing-of .ensures)
+    grid-as _ _ (wide .before .before .before .before .args .slots) _ _ (wide .span-of .ensures) _ _
+    (wide .before .before .slot-width .ensures) (wide .before .spacing-of .ensures)
     (puts-then _ _ _ _ _ (edged .put-edges .ensures) (end .put-edges2 .ensures))
 
 pub put-grid-spec : {M : Type 1} → statement M

@@ -35,7 +35,8 @@ returns c =
     let named = end .before .before .before .before in
     let begun = named .before .before .before .before in
     let counted = begun .before .before in
-    title-as _ _ (counted .before .before .before .before .args .site) _ _ _ _ _ (counted .before .before .base-under .ensures) (counted .before .frame-under .ensures) (counted .idle-count .ensures)
+    title-as _ _ (counted .before .before .before .before .args .site) _ _ _ _ _
+    (counted .before .before .base-under .ensures) (counted .before .frame-under .ensures) (counted .idle-count .ensures)
     (puts-then _ _ _ _ _ (begun .put-opened .ensures) (puts-then _ _ _ _ _ (named .put-parent .ensures) (end .put-figures .ensures)))
 
 pub put-title-spec : {M : Type 1} → statement M

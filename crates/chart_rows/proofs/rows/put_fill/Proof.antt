@@ -24,7 +24,9 @@ same-length : tie.Need-same-length
 same-length c = search needs
 
 returns : tie.Need-returns
-returns c = fill-full _ _ _ _ _ (c .before .before .before .before .before .before .filled .ensures) (c .before .before .before .before .before .if1 .taken) (c .before .before .put-bar .ensures)
+returns c =
+    let full = c .before .before .before .before .before in
+    fill-full _ _ _ _ _ (full .before .filled .ensures) (full .if1 .taken) (c .before .before .put-bar .ensures)
 
 slice-aggregate-put-bar-2 : tie.Need-slice-aggregate-put-bar-2
 slice-aggregate-put-bar-2 c = search needs
@@ -36,7 +38,9 @@ same-length-2 : tie.Need-same-length-2
 same-length-2 c = search needs
 
 returns-2 : tie.Need-returns-2
-returns-2 c = fill-less _ _ _ _ _ (c .before .before .before .before .before .before .filled .ensures) (omega (arith, c .before .before .before .before .before .if1 .left)) (c .before .before .put-bar2 .ensures)
+returns-2 c =
+    let less = c .before .before .before .before .before in
+    fill-less _ _ _ _ _ (less .before .filled .ensures) (omega (arith, less .if1 .left)) (c .before .before .put-bar2 .ensures)
 
 pub put-fill-spec : {M : Type 1} → statement M
 put-fill-spec =

@@ -42,7 +42,9 @@ returns c =
     let named = drawn .before .before .before .before .before .before in
     let start = named .before .before .before in
     idle-as (start .args .site) _ _ (start .args .slots) _ _ _ _ (drawn .before .slot-width .ensures) (marked .before .shown-of .ensures)
-    (puts-then _ _ _ _ _ (named .put-idle-name .ensures) (puts-then _ _ _ _ _ (drawn .put-path .ensures) (puts-then _ _ _ _ _ (marked .put-idle-marks .ensures) (puts-one _ _ _ (end .put .ensures)))))
+    (puts-then _ _ _ _ _ (named .put-idle-name .ensures)
+    (puts-then _ _ _ _ _ (drawn .put-path .ensures)
+    (puts-then _ _ _ _ _ (marked .put-idle-marks .ensures) (puts-one _ _ _ (end .put .ensures)))))
 
 pub put-idle-spec : {M : Type 1} → statement M
 put-idle-spec =

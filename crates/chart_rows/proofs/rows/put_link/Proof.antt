@@ -63,7 +63,11 @@ returns c =
     (named .before .before .before .before .before .before .value-of2 .ensures)
     (named .before .before .value-of3 .ensures)
     (drawn .before .slot-width .ensures) (marked .before .shown-of .ensures)
-    (puts-then _ _ _ _ _ (named .put-name .ensures) (puts-then _ _ _ _ _ (timed .put-slots .ensures) (puts-then _ _ _ _ _ (loaded .put-load .ensures) (puts-then _ _ _ _ _ (drawn .put-path .ensures) (puts-then _ _ _ _ _ (marked .put-link-marks .ensures) (puts-one _ _ _ (end .put .ensures)))))))
+    (puts-then _ _ _ _ _ (named .put-name .ensures)
+    (puts-then _ _ _ _ _ (timed .put-slots .ensures)
+    (puts-then _ _ _ _ _ (loaded .put-load .ensures)
+    (puts-then _ _ _ _ _ (drawn .put-path .ensures)
+    (puts-then _ _ _ _ _ (marked .put-link-marks .ensures) (puts-one _ _ _ (end .put .ensures)))))))
 
 pub put-link-spec : {M : Type 1} → statement M
 put-link-spec =

@@ -43,7 +43,10 @@ returns c =
     let kept = whole .before .before .before .before .before in
     let drawn = kept .before .before .before .before .before in
     let room = drawn .before .before .before .before in
-    puts-then _ _ _ _ _ (room .put-bar .ensures) (puts-then _ _ _ _ _ (drawn .put-fill .ensures) (puts-then _ _ _ _ _ (kept .put-field .ensures) (puts-then _ _ _ _ _ (whole .put-field2 .ensures) (puts-one _ _ _ (end .put .ensures)))))
+    puts-then _ _ _ _ _ (room .put-bar .ensures)
+    (puts-then _ _ _ _ _ (drawn .put-fill .ensures)
+    (puts-then _ _ _ _ _ (kept .put-field .ensures)
+    (puts-then _ _ _ _ _ (whole .put-field2 .ensures) (puts-one _ _ _ (end .put .ensures)))))
 
 pub put-load-spec : {M : Type 1} → statement M
 put-load-spec =

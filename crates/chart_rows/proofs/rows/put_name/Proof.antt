@@ -39,7 +39,9 @@ returns c =
     let named = end .before .before .before .before .before in
     let low = named .before .before .before .before .before in
     let begun = low .before .before .before .before .before in
-    puts-then _ _ _ _ _ (begun .put-field .ensures) (puts-then _ _ _ _ _ (low .put-field2 .ensures) (puts-then _ _ _ _ _ (named .put-field3 .ensures) (puts-one _ _ _ (end .put .ensures))))
+    puts-then _ _ _ _ _ (begun .put-field .ensures)
+    (puts-then _ _ _ _ _ (low .put-field2 .ensures)
+    (puts-then _ _ _ _ _ (named .put-field3 .ensures) (puts-one _ _ _ (end .put .ensures))))
 
 pub put-name-spec : {M : Type 1} → statement M
 put-name-spec =

@@ -49,7 +49,9 @@ loop-again c =
     let stepped = c .before .before .before .number-step .ensures in
     let wide = c .before .before .before .before .slot-width .ensures in
     elim (c .if1 .came) [
-      | inl w ↦ (omega arith, printed-line _ _ _ _ (sofar .1) _ (number-here _ _ _ _ _ _ wide stepped (w .0 .taken) (w .2 .ensures)) _ _ _ _ (w .7) (w .6) (w .3 .ensures))
+      | inl w ↦
+          let here = number-here _ _ _ _ _ _ wide stepped (w .0 .taken) (w .2 .ensures) in
+          (omega arith, printed-line _ _ _ _ (sofar .1) _ here _ _ _ _ (w .7) (w .6) (w .3 .ensures))
       | inr w ↦ (omega arith, printed-none _ _ _ _ _ (sofar .1) (number-none _ _ _ _ stepped (w .0 .left)) _ _ (w .2) (w .1))
     ]
 
