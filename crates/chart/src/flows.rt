@@ -1,7 +1,7 @@
 // The table of the flows.
-use crate::page::print_stripes;
-use frames::put_route;
+use chart_panels::put_stripes;
 use printing::print_front;
+use route_text::put_route;
 use site::Site;
 ghost use Prim.Native.Nat.{_≤_};
 
@@ -94,7 +94,8 @@ pub(crate) fn print_table(site: Site, flows: u64, y: u64)
         );
         return;
     }
-    print_stripes(636, 44, flows);
+    let striped = put_stripes(&mut line, 0, 636, 44, flows as u32);
+    print_front(&line, striped);
     print_columns();
     print_flows(site);
     io::write_all(1, b"</g>\n");

@@ -3,7 +3,6 @@ mod flows;
 mod page;
 mod panels;
 mod refusals;
-mod rows;
 
 use page::print_head;
 use page::print_tail;
@@ -27,9 +26,11 @@ fn print_site(site: Site) {
         return;
     }
     let flows = site::flow_count(site);
-    let size = panels::size_of(site);
-    let below = size.height;
-    print_head(size.width, below + flows::table_height(flows));
+    let below = chart_panels::panels_height(site) as u64;
+    print_head(
+        chart_panels::panels_width(site),
+        below + flows::table_height(flows),
+    );
     page::print_heading(site.links as u64, flows);
     panels::print_panels(site);
     flows::print_table(site, flows, below);

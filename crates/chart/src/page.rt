@@ -1,7 +1,7 @@
 // What pictures have in common. Lengths are in pixels. Every line is put together in the 4,096 bytes of `io::buffer`, of which the longest, a row with
 // 128 marks, takes less than half.
+use chart_panels::put_count;
 use printing::print_front;
-ghost use Prim.Native.Nat.{_≤_};
 
 fn print_style() {
     io::write_all(
@@ -36,34 +36,6 @@ pub(crate) fn print_head(width: u64, height: u64) {
 
 pub(crate) fn print_tail() {
     io::write_all(1, b"</svg>\n");
-}
-
-// Every other row of 20 pixels on a grey ground, from this height down. A wide stroke in dashes draws them all.
-pub(crate) fn print_stripes(width: u64, top: u64, rows: u64)
-    requires { ⌜ (width ≤ 10000) × (rows ≤ 64) ⌝ }
-{
-    let mut line = io::buffer();
-    let wide = text::put_field(
-        &mut line,
-        0,
-        b"<path class=\"stripes\" stroke-dasharray=\"20\" stroke-width=\"",
-        width,
-    );
-    let left = text::put_field(&mut line, wide, b"\" d=\"M", 24 + width / 2);
-    let high = text::put_field(&mut line, left, b" ", top);
-    let low = text::put_field(&mut line, high, b"v", 20 * rows);
-    let ended = slices::put(&mut line, low, b"\"/>\n");
-    print_front(&line, ended);
-}
-
-// Puts a number of things, with its plural.
-pub(crate) fn put_count(out: &mut [u8], at: usize, count: u64, thing: &[u8]) -> usize {
-    let counted = text::put_decimal(out, at, count);
-    let named = slices::put(out, counted, thing);
-    if count == 1 {
-        return named;
-    }
-    slices::put(out, named, b"s")
 }
 
 fn print_legend() {

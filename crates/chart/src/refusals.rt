@@ -1,7 +1,7 @@
 // A plan that is refused: which check of 01 refused it, where, and what that means to a planner.
 use crate::page::print_head;
 use crate::page::print_tail;
-use crate::panels::put_parent;
+use chart_panels::put_parent;
 use printing::print_front;
 
 // What the place of a refusal counts.

@@ -6,30 +6,23 @@ use mathlib.Core.List.{List, []}
 use lib.Dec.{eqb}
 use lib.ListN.{getD}
 use borrow.Author.Tests.{eq-eqb, ne-eqb, lt-ltb, le-ltb, lt-leb, le-leb}
-use native.Mathlib.Nat.{mod-zero}
 use native.Mathlib.Numerals.{add-one}
 use native.Mathlib.Omega.{arith}
 use Rattle.lists.specs.Search.{any}
-use Rattle.lists.specs.Lists.{largest, joined, sumTo}
+use Rattle.lists.specs.Lists.{largest, sumTo}
 use Rattle.pinwheel.specs.Rule.{sends}
-use Rattle.lists.proofs.Laws.Search.{any-hit, any-miss, any-end, any-ext}
-use Rattle.lists.proofs.Laws.Items.{joined-same}
+use Rattle.lists.proofs.Laws.Search.{any-hit, any-miss, any-end}
+use Rattle.lists.proofs.Laws.Items.{joined-same, joined-none}
 use Rattle.site.specs.declared.Site.{Site}
 use Rattle.site.specs.Sites.{used}
 use Rattle.tree.specs.Tree.{ofLink}
 use Rattle.schedule.specs.Schedule.{gapsFrom, linkSends}
 use Rattle.text.specs.Put.{puts}
-use Rattle.frames.specs.Marks.{frameOf, mark, markIf, marks, idle, idleCount}
-use Rattle.frames.specs.Inner.{busy}
+use Rattle.frames.specs.Marks.{frameOf, mark, markIf, marks, idle}
 
 pub links-few : (links n : ℕ) → n ≡ used links → (n ≤ links) × (n ≤ 63)
 unfolding used
 links-few links n e = (omega (arith, e), omega (arith, e))
-
--- A link with period 0 sends in the slot of its offset alone, since a remainder by 0 is the number itself.
-pub sends-never : (p o t : ℕ) → p ≡ 0 → eqb t o ≡ sends p o t
-unfolding sends
-sends-never p o t e = rw (e, mod-zero)
 
 -- A slot that has the test is marked, and another is not.
 pub mark-here : (test : ℕ → Bool) (t : ℕ) → test t ≡ true → mark t ≡ markIf test t
@@ -49,78 +42,74 @@ sends-link : (s : Site) (i t : ℕ) → i < s .links → sends (getD (s .periods
 unfolding linkSends ofLink
 sends-link s i t l = rw (add-one i, lt-ltb 0 (suc i) (omega arith), le-leb (suc i) (s .links) (omega arith))
 
-pub marks-link : (s : Site) (n slots period offset : ℕ) (t u : ℕ × List ℕ) → 0 < n → n ≤ s .links → period ≡ ofLink (s .periods) n → offset ≡ ofLink (s .offsets) n
-    → u ≡ puts t (marks (sends period offset) slots) → u ≡ puts t (marks (linkSends s n) slots)
+pub marks-link : (s : Site) (n slots period offset : ℕ) (t u : ℕ × List ℕ) → 0 < n → n ≤ s .links → period ≡ ofLink (s .periods) n
+    → offset ≡ ofLink (s .offsets) n → u ≡ puts t (marks (sends period offset) slots) → u ≡ puts t (marks (linkSends s n) slots)
 unfolding linkSends
 marks-link s n slots period offset t u l h a b e =
     e ∙ ap (λ (pieces : List (List ℕ)). puts t pieces) (marks-same _ _ slots (λ k. rw (a, b, lt-ltb 0 n l, le-leb n (s .links) h)))
 
-marks-never : (test : ℕ → Bool) (slots i : ℕ) → ((t : ℕ) → test t ≡ false) → joined (markIf test) slots i ≡ []
-unfolding joined markIf
-marks-never test zero i e = refl
-marks-never test (suc slots) i e = rw (e i, marks-never test slots (i + 1) e)
-
 pub marks-root : (s : Site) (n slots : ℕ) (t : ℕ × List ℕ) → n ≡ 0 → t ≡ puts t (marks (linkSends s n) slots)
 unfolding marks puts linkSends
-marks-root s n slots t e = rw (marks-never (linkSends s n) slots 0 (λ k. rw (le-ltb 0 n (omega arith))))
+marks-root s n slots t e = rw (joined-none (markIf (linkSends s n)) slots 0 (λ k h. mark-none _ k (rw (le-ltb 0 n (omega arith)))))
 
 pub marks-beyond : (s : Site) (n slots : ℕ) (t : ℕ × List ℕ) → s .links < n → t ≡ puts t (marks (linkSends s n) slots)
 unfolding marks puts linkSends
-marks-beyond s n slots t l = rw (marks-never (linkSends s n) slots 0 (λ k. rw (lt-ltb 0 n (omega arith), lt-leb n (s .links) l)))
+marks-beyond s n slots t l = rw (joined-none (markIf (linkSends s n)) slots 0 (λ k h. mark-none _ k (rw (lt-ltb 0 n (omega arith), lt-leb n (s .links) l))))
 
--- The links before index i are no children that send, so that the answer lies in the rest.
-module _ (parents periods offsets : List ℕ) (p n t : ℕ) where
+-- The links before index i are no children of p that send in slot t, so that the answer lies in the rest of the n links.
+module _ (s : Site) (p t n : ℕ) where
   pub record Silent (i : ℕ) : Type 0 where
+    pub all : n ≡ used (s .links)
     pub upto : i ≤ n
-    pub rest : busy parents periods offsets p n t ≡ any (λ k. eqb (getD parents k 0) p && sends (getD periods k 0) (getD offsets k 0) t) (n - i) i
+    pub rest : idle s p t ≡ not (any (λ k. eqb (getD (s .parents) k 0) p && linkSends s (k + 1) t) (n - i) i)
 
-  pub silent-start : Silent 0
-  unfolding busy
-  silent-start = let e : n - 0 ≡ n = omega arith in record { upto = omega arith; rest = rw e }
+  pub silent-start : n ≡ used (s .links) → Silent 0
+  unfolding idle
+  silent-start e = let z : used (s .links) - 0 ≡ used (s .links) = omega arith in record { all = e; upto = omega arith; rest = rw (e, z) }
 
-  pub silent-met : (i : ℕ) → Silent i → i < n → getD parents i 0 ≡ p → sends (getD periods i 0) (getD offsets i 0) t ≡ true → true ≡ busy parents periods offsets p n t
-  silent-met i v l e h = sym (v .rest ∙ any-hit _ n i l (rw (eq-eqb _ _ e) h))
+  child-sends : (i : ℕ) (b : Bool) → Silent i → i < n → sends (getD (s .periods) i 0) (getD (s .offsets) i 0) t ≡ b → linkSends s (i + 1) t ≡ b
+  child-sends i b v l h = sym (sends-link s i t (omega (arith, links-few (s .links) n (v .all) .0))) ∙ h
 
-  pub silent-child : (i : ℕ) → Silent i → i < n → getD parents i 0 ≡ p → sends (getD periods i 0) (getD offsets i 0) t ≡ false → Silent (i + 1)
-  silent-child i v l e h = record { upto = omega arith; rest = v .rest ∙ any-miss _ n i l (rw (eq-eqb _ _ e) h) }
+  pub silent-met : (i : ℕ) → Silent i → i < n → getD (s .parents) i 0 ≡ p → sends (getD (s .periods) i 0) (getD (s .offsets) i 0) t ≡ true
+      → false ≡ idle s p t
+  silent-met i v l e h = sym (v .rest ∙ ap not (any-hit _ n i l (rw (eq-eqb _ _ e) (child-sends i true v l h))))
 
-  pub silent-other : (i : ℕ) → Silent i → i < n → (getD parents i 0 ≡ p → ⊥) → Silent (i + 1)
-  silent-other i v l e = record { upto = omega arith; rest = v .rest ∙ any-miss _ n i l (rw (ne-eqb _ _ e)) }
+  pub silent-child : (i : ℕ) → Silent i → i < n → getD (s .parents) i 0 ≡ p → sends (getD (s .periods) i 0) (getD (s .offsets) i 0) t ≡ false
+      → Silent (i + 1)
+  silent-child i v l e h = record {
+    all = v .all;
+    upto = omega arith;
+    rest = v .rest ∙ ap not (any-miss _ n i l (rw (eq-eqb _ _ e) (child-sends i false v l h)));
+  }
 
-  pub silent-end : (i : ℕ) → Silent i → n ≤ i → false ≡ busy parents periods offsets p n t
-  silent-end i v l = sym (v .rest ∙ any-end _ n i l)
+  pub silent-other : (i : ℕ) → Silent i → i < n → (getD (s .parents) i 0 ≡ p → ⊥) → Silent (i + 1)
+  silent-other i v l e = record { all = v .all; upto = omega arith; rest = v .rest ∙ ap not (any-miss _ n i l (rw (ne-eqb _ _ e))) }
 
-pub idle-test : (s : Site) (p n t : ℕ) (r : Bool) → r ≡ busy (s .parents) (s .periods) (s .offsets) p n t → n ≡ used (s .links) → idle s p t ≡ not r
-unfolding idle busy
-idle-test s p n t r e l = rw (← l) (ap not (sym (e ∙ any-ext _ _ n 0 each)))
-  where
-    each : (i : ℕ) → 0 ≤ i → i < 0 + n
-        → eqb (getD (s .parents) i 0) p && sends (getD (s .periods) i 0) (getD (s .offsets) i 0) t ≡ eqb (getD (s .parents) i 0) p && linkSends s (i + 1) t
-    each i a b =
-        ap (λ (z : Bool). eqb (getD (s .parents) i 0) p && z) (sends-link s i t (omega (arith, links-few (s .links) n l .0)))
+  pub silent-end : (i : ℕ) → Silent i → n ≤ i → true ≡ idle s p t
+  silent-end i v l = sym (v .rest ∙ ap not (any-end _ n i l))
 
--- So many of the slots below n are idle.
-module _ (s : Site) (p : ℕ) where
-  pub record Idled (n count : ℕ) : Type 0 where
+-- So many of the numbers below n have a test.
+module _ (test : ℕ → Bool) where
+  pub record Counted (n count : ℕ) : Type 0 where
     pub few : count ≤ n
-    pub is : count ≡ idleCount s p n
+    pub is : count ≡ sumTo (λ t. cond (test t) 1 0) n
 
-  pub idled-start : Idled 0 0
-  unfolding idleCount sumTo
-  idled-start = record { few = omega arith; is = refl }
+  pub counted-start : Counted 0 0
+  unfolding sumTo
+  counted-start = record { few = omega arith; is = refl }
 
-  idled-next : (n one : ℕ) → cond (idle s p n) 1 0 ≡ one → idleCount s p (n + 1) ≡ idleCount s p n + one
-  unfolding idleCount sumTo
-  idled-next n one e = rw (add-one n, e)
+  counted-next : (n one : ℕ) → cond (test n) 1 0 ≡ one → sumTo (λ t. cond (test t) 1 0) (n + 1) ≡ sumTo (λ t. cond (test t) 1 0) n + one
+  unfolding sumTo
+  counted-next n one e = rw (add-one n, e)
 
-  pub idled-more : (n count m : ℕ) → Idled n count → idle s p n ≡ true → m ≡ count + 1 → Idled (n + 1) m
-  idled-more n count m c e q = record { few = omega (arith, c .few); is = omega (arith, c .is, idled-next n 1 (rw e)) }
+  pub counted-more : (n count m : ℕ) → Counted n count → test n ≡ true → m ≡ count + 1 → Counted (n + 1) m
+  counted-more n count m c e q = record { few = omega (arith, c .few); is = omega (arith, c .is, counted-next n 1 (rw e)) }
 
-  pub idled-same : (n count m : ℕ) → Idled n count → idle s p n ≡ false → m ≡ count → Idled (n + 1) m
-  idled-same n count m c e q = record { few = omega (arith, c .few); is = omega (arith, c .is, idled-next n 0 (rw e)) }
+  pub counted-same : (n count m : ℕ) → Counted n count → test n ≡ false → m ≡ count → Counted (n + 1) m
+  counted-same n count m c e q = record { few = omega (arith, c .few); is = omega (arith, c .is, counted-next n 0 (rw e)) }
 
-  pub idled-end : (n m count : ℕ) → Idled n count → n ≡ m → count ≡ idleCount s p m
-  idled-end n m count c e = c .is ∙ rw e
+  pub counted-end : (n m count : ℕ) → Counted n count → n ≡ m → count ≡ sumTo (λ t. cond (test t) 1 0) m
+  counted-end n m count c e = c .is ∙ rw e
 
 -- The largest period of p's children from index i on.
 module _ (s : Site) (p n : ℕ) where
@@ -132,7 +121,8 @@ module _ (s : Site) (p n : ℕ) where
   unfolding gapsFrom largest
   longest-start = let e : n - n ≡ 0 = omega arith in record { upto = omega arith; is = rw e }
 
-  pub longest-child : (i j longest r : ℕ) → Longest i longest → j ≡ i - 1 → 0 < i → getD (s .parents) j 0 ≡ p → r ≡ max (getD (s .periods) j 0) longest → Longest j r
+  pub longest-child : (i j longest r : ℕ) → Longest i longest → j ≡ i - 1 → 0 < i → getD (s .parents) j 0 ≡ p
+      → r ≡ max (getD (s .periods) j 0) longest → Longest j r
   unfolding gapsFrom largest
   longest-child i j longest r v a l e m =
       let k : n - j ≡ suc (n - (j + 1)) = omega arith in

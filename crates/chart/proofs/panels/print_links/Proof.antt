@@ -8,19 +8,22 @@ use Rattle.chart.proofs.panels.print_links.Statement.{statement}
 use Rattle.chart.proofs.panels.print_links.Tie as tie
 
 abbrev Inv-loop : tie.InvT-loop
-Inv-loop parent scale site loads links y₀ i₀ y i = (links ≤ 63) × (links ≤ site .links) × (i ≤ links) × (y ≤ 46 + 20 * i)
+Inv-loop parent slots site loads links y₀ i₀ y i = (links ≤ 63) × (i ≤ links) × (y ≤ 46 + 20 * i)
 
 abbrev μ-loop : tie.MeasureT-loop
-μ-loop parent scale site loads links y₀ i₀ y i = links - i
+μ-loop parent slots site loads links y₀ i₀ y i = links - i
 
 link-count-requires : tie.Need-link-count-requires Inv-loop μ-loop
 link-count-requires c κs = search needs
 
 loop-holds : tie.Need-loop-holds Inv-loop μ-loop
-loop-holds c = (links-few _ _ (c .link-count .ensures) .1, links-few _ _ (c .link-count .ensures) .0, omega arith, omega arith)
+loop-holds c = (links-few _ _ (c .link-count .ensures) .1, omega arith, omega arith)
 
 element-copy-out-if1 : tie.Need-element-copy-out-if1 Inv-loop μ-loop
 element-copy-out-if1 c = search needs
+
+cast-print-link : tie.Need-cast-print-link Inv-loop μ-loop
+cast-print-link c = search needs
 
 add-print-link : tie.Need-add-print-link Inv-loop μ-loop
 add-print-link c = search needs
@@ -44,7 +47,7 @@ loop-less : tie.Need-loop-less Inv-loop μ-loop
 loop-less c = search needs
 
 loop-again : tie.Need-loop-again Inv-loop μ-loop
-loop-again c = elim (c .if1 .came) [ inl w ↦ (search needs, search needs, omega arith, omega arith) | inr w ↦ (search needs, search needs, omega arith, omega arith) ]
+loop-again c = elim (c .if1 .came) [ inl w ↦ (search needs, omega arith, omega arith) | inr w ↦ (search needs, omega arith, omega arith) ]
 
 returns : tie.Need-returns Inv-loop μ-loop
 returns c = search needs
@@ -58,6 +61,7 @@ print-links-spec =
     link-count-requires
     loop-holds
     element-copy-out-if1
+    cast-print-link
     add-print-link
     mul-print-link
     array-read-print-link

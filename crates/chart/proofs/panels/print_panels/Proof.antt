@@ -1,4 +1,4 @@
--- Right because no panel is higher than 1400, and a parent is the root or one of at most 63 nodes; what is left of these falls.
+-- Right because no panel is higher than 65535, and a parent is the root or one of at most 63 nodes; what is left of these falls.
 use borrow.Author.Needs.{needs}
 use Prim.Native.Nat.{_+_, _*_, _≤_, _-_}
 use native.Mathlib.Omega.{arith}
@@ -7,7 +7,7 @@ use Rattle.chart.proofs.panels.print_panels.Statement.{statement}
 use Rattle.chart.proofs.panels.print_panels.Tie as tie
 
 abbrev Inv-loop : tie.InvT-loop
-Inv-loop site links loads y₀ parent₀ y parent = (links ≤ 63) × (parent ≤ links + 1) × (y ≤ 84 + 1400 * parent)
+Inv-loop site links loads y₀ parent₀ y parent = (links ≤ 63) × (parent ≤ links + 1) × (y ≤ 84 + 65535 * parent)
 
 abbrev μ-loop : tie.MeasureT-loop
 μ-loop site links loads y₀ parent₀ y parent = links + 1 - parent
