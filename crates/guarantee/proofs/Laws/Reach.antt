@@ -29,7 +29,7 @@ upto-less xs k l =
     ∙ ap (λ (v : ℕ). set (upto k xs) k v) (sym (upto-above xs k k (omega arith) (omega arith))) ∙ set-getD (upto k xs) k 0
 
 -- The site with the flows of numbers below k.
-unfoldable flowsBelow : ℕ → Site → Site
+unfoldable pub flowsBelow : ℕ → Site → Site
 flowsBelow k s = withFlows s (upto k (s .states)) (upto k (s .entries)) (upto k (s .rates)) (upto k (s .deadlines))
 
 module _ (s : Site) (long : Shape s) where
