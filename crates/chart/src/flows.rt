@@ -29,6 +29,23 @@ fn put_figures(out: &mut [u8], at: usize, rate: u8, bound: u32, deadline: u16) -
     slices::put(out, due, b"</text>")
 }
 
+fn put_number(out: &mut [u8], at: usize, number: u8, y: u64) -> usize {
+    let begun = text::put_field(out, at, b"<g id=\"flow", number as u64);
+    let low = text::put_field(out, begun, b"\" transform=\"translate(0 ", y);
+    text::put_field(
+        out,
+        low,
+        b")\"><text class=\"end\" x=\"64\">",
+        number as u64,
+    )
+}
+
+fn put_way(out: &mut [u8], at: usize, parents: &[u8], entry: u8) -> usize {
+    let left = slices::put(out, at, b"</text><text x=\"88\">");
+    let routed = put_route(out, left, parents, entry);
+    slices::put(out, routed, b"server</text>")
+}
+
 fn print_flow(site: Site, number: u8, y: u64)
     requires { ⌜ number ≤ 63 ⌝ }
 {
@@ -38,18 +55,9 @@ fn print_flow(site: Site, number: u8, y: u64)
     let deadline = site.deadlines[n];
     let bound = reservations::delay_bound(site, number);
     let mut line = io::buffer();
-    let begun = text::put_field(&mut line, 0, b"<g id=\"flow", number as u64);
-    let low = text::put_field(&mut line, begun, b"\" transform=\"translate(0 ", y);
-    let named = text::put_field(
-        &mut line,
-        low,
-        b")\"><text class=\"end\" x=\"64\">",
-        number as u64,
-    );
-    let left = slices::put(&mut line, named, b"</text><text x=\"88\">");
-    let routed = put_route(&mut line, left, &site.parents, entry);
-    let arrived = slices::put(&mut line, routed, b"server</text>");
-    let told = put_figures(&mut line, arrived, rate, bound, deadline);
+    let named = put_number(&mut line, 0, number, y);
+    let routed = put_way(&mut line, named, &site.parents, entry);
+    let told = put_figures(&mut line, routed, rate, bound, deadline);
     let ended = slices::put(&mut line, told, b"</g>\n");
     print_front(&line, ended);
 }
@@ -75,7 +83,6 @@ fn print_columns() {
     );
 }
 
-// The table at this height.
 pub(crate) fn print_table(site: Site, flows: u64, y: u64)
     requires { ⌜ flows ≤ 64 ⌝ }
 {

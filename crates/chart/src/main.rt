@@ -46,7 +46,7 @@ fn print_plan(bytes: &[u8]) {
     }
 }
 
-// No input can pass more than 63 NODEs, 64 FLOWs and END, so its first 1,024 bytes settle every answer: this is the law `read-first` of crate `reader`.
+// No input can pass more than 63 NODEs, 64 FLOWs and END, so its first 1,024 bytes settle every answer: this is the law `read-first` of crate `format`.
 fn main() {
     if os::arg_count() != 1 {
         io::write_all(2, b"usage: chart < PLAN > PICTURE.svg\n");

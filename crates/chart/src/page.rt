@@ -12,7 +12,7 @@ fn print_style() {
     );
 }
 
-// The picture begins, on a white ground.
+// On a white ground of its own, since a viewer may show a dark one.
 pub(crate) fn print_head(width: u64, height: u64) {
     let mut line = io::buffer();
     let wide = text::put_field(
@@ -48,7 +48,6 @@ fn print_legend() {
     );
 }
 
-// What is drawn, and what the colours mean.
 pub(crate) fn print_heading(links: u64, flows: u64) {
     let mut line = io::buffer();
     let begun = slices::put(

@@ -13,7 +13,6 @@ fn print_link(site: Site, node: u8, y: u64, load: u32, slots: u32) {
     print_front(&line, ended);
 }
 
-// A row for each child of the parent.
 fn print_links(site: Site, parent: u8, loads: [u32; 63], slots: u32) {
     let links = site::link_count(site.links);
     let mut y = 46;

@@ -4,7 +4,6 @@ use crate::page::print_tail;
 use chart_panels::put_parent;
 use printing::print_front;
 
-// What the place of a refusal counts.
 fn put_place(out: &mut [u8], at: usize, number: u8, place: usize) -> usize {
     match number {
         11 => put_parent(out, at, place),
@@ -14,7 +13,6 @@ fn put_place(out: &mut [u8], at: usize, number: u8, place: usize) -> usize {
     }
 }
 
-// Bytes that are no commands in their order.
 fn put_form_rule(out: &mut [u8], at: usize, number: u8) -> usize {
     match number {
         2 => slices::put(
@@ -37,7 +35,7 @@ fn put_form_rule(out: &mut [u8], at: usize, number: u8) -> usize {
     }
 }
 
-// Operands that are not allowed. Where one fills its width, it has no upper limit.
+// An operand whose largest value fills its width has no upper limit to name.
 fn put_operand_rule(out: &mut [u8], at: usize, number: u8) -> usize {
     match number {
         5 => slices::put(
@@ -64,7 +62,6 @@ fn put_operand_rule(out: &mut [u8], at: usize, number: u8) -> usize {
     }
 }
 
-// What the number of a refusal says.
 fn put_rule(out: &mut [u8], at: usize, number: u8) -> usize {
     match number {
         11 => slices::put(

@@ -10,7 +10,6 @@ ghost use Prim.Native.Nat.{_≤_};
 ghost use Rattle.text.specs.Put.{puts};
 ghost use Rattle.chart_panels.specs.Panels.{parentName, counted, firstOnly, opened, figures, title, stripes, ground, edges, grid};
 
-// A parent by its number.
 pub fn put_parent(out: &mut [u8], at: usize, parent: usize) -> usize
     ensures { λ r. ⌜ (r, now (out .exit)) ≡ puts (at, now (out .entry)) (parentName parent) ⌝ }
 {
@@ -20,7 +19,6 @@ pub fn put_parent(out: &mut [u8], at: usize, parent: usize) -> usize
     text::put_field(out, at, b"under node ", parent as u64)
 }
 
-// A number of things, with its plural.
 pub fn put_count(out: &mut [u8], at: usize, count: u64, thing: &[u8]) -> usize
     ensures { λ r. ⌜ (r, now (out .exit)) ≡ puts (at, now (out .entry)) (counted count (now (thing .entry))) ⌝ }
 {
@@ -71,7 +69,6 @@ fn put_figures(out: &mut [u8], at: usize, base: u16, frame: u16, idle: u32) -> u
     slices::put(out, shown, b"</tspan></text>\n")
 }
 
-// The title of a parent's panel, which begins at this height.
 pub fn put_title(out: &mut [u8], at: usize, site: Site, parent: u8, y: u64) -> usize
     ensures { λ r. ⌜ (r, now (out .exit)) ≡ puts (at, now (out .entry)) (title site parent y) ⌝ }
 {
@@ -83,7 +80,6 @@ pub fn put_title(out: &mut [u8], at: usize, site: Site, parent: u8, y: u64) -> u
     put_figures(out, named, base, frame, idle)
 }
 
-// Every other row on a grey ground, from this height down.
 pub fn put_stripes(out: &mut [u8], at: usize, width: u64, top: u64, rows: u32) -> usize
     ensures { λ r. ⌜ (r, now (out .exit)) ≡ puts (at, now (out .entry)) (stripes width top rows) ⌝ }
 {
@@ -99,7 +95,6 @@ pub fn put_stripes(out: &mut [u8], at: usize, width: u64, top: u64, rows: u32) -
     slices::put(out, low, b"\"/>\n")
 }
 
-// What lies under the rows of a panel with so many slots and children.
 pub fn put_ground(out: &mut [u8], at: usize, slots: u32, children: u8) -> usize
     ensures { λ r. ⌜ (r, now (out .exit)) ≡ puts (at, now (out .entry)) (ground slots children) ⌝ }
 {

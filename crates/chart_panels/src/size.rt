@@ -4,7 +4,6 @@ use site::Site;
 ghost use mathlib.Core.Path.{_≡_};
 ghost use Rattle.chart_panels.specs.Size.{childCount, heightFor, widthFor, panelsHeight, panelsWidth};
 
-// How many children a parent has.
 pub fn child_count(site: Site, parent: u8) -> u8
     ensures { λ r. ⌜ r ≡ childCount site parent ⌝ }
 {
@@ -20,7 +19,7 @@ pub fn child_count(site: Site, parent: u8) -> u8
     count
 }
 
-// The height of a panel with so many children.
+// Counts and heights are narrow, so that no sum of them can be too large.
 pub fn panel_height(children: u8) -> u16
     ensures { λ r. ⌜ r ≡ heightFor children ⌝ }
 {
@@ -42,7 +41,6 @@ fn panel_width(children: u8, slots: u32) -> u64
     448 + chart_rows::span_of(slots) as u64
 }
 
-// The height of all panels with what stands above them.
 pub fn panels_height(site: Site) -> u32
     ensures { λ r. ⌜ r ≡ panelsHeight site ⌝ }
 {
@@ -56,7 +54,6 @@ pub fn panels_height(site: Site) -> u32
     height
 }
 
-// The width of a picture.
 pub fn panels_width(site: Site) -> u64
     ensures { λ r. ⌜ r ≡ panelsWidth site ⌝ }
 {

@@ -46,7 +46,6 @@ fn put_numbers(out: &mut [u8], at: usize, y: u64, slots: u32) -> usize
     taken
 }
 
-// The numbers of the slots, at this height.
 pub fn put_axis(out: &mut [u8], at: usize, y: u64, slots: u32) -> usize
     ensures { λ r. ⌜ (r, now (out .exit)) ≡ puts (at, now (out .entry)) (axis y slots) ⌝ }
 {
@@ -143,7 +142,7 @@ fn put_path(out: &mut [u8], at: usize, class: &[u8], width: u32) -> usize
     slices::put(out, scaled, b" 12)\" d=\"")
 }
 
-// The row of a node's link at this height, with the load that its flows keep.
+// The load is handed over, since one walk over the flows gives those of all links.
 pub fn put_link(
     out: &mut [u8],
     at: usize,
@@ -174,7 +173,6 @@ fn put_idle_name(out: &mut [u8], at: usize, parent: u8, y: u64) -> usize
     slices::put(out, low, b")\"><text x=\"24\" y=\"14\">idle</text>\n")
 }
 
-// The row of the slots in which no child of the parent sends, at this height.
 pub fn put_idle(out: &mut [u8], at: usize, site: Site, parent: u8, y: u64, slots: u32) -> usize
     ensures { λ r. ⌜ (r, now (out .exit)) ≡ puts (at, now (out .entry)) (idleRow site parent y slots) ⌝ }
 {

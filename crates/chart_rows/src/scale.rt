@@ -11,7 +11,6 @@ pub(crate) fn shown_of(slots: u32) -> u32
     slots
 }
 
-// The width of one slot, if a frame has so many.
 pub fn slot_width(slots: u32) -> u32
     ensures { λ r. ⌜ r ≡ slotWidth slots ⌝ }
 {
@@ -24,7 +23,6 @@ pub fn slot_width(slots: u32) -> u32
     8
 }
 
-// How many slots lie from one number to the next.
 pub(crate) fn number_step(slots: u32) -> u32
     ensures { λ r. ⌜ r ≡ numberStep slots ⌝ }
 {
@@ -37,14 +35,12 @@ pub(crate) fn number_step(slots: u32) -> u32
     4
 }
 
-// How far two numbers are apart.
 pub fn spacing_of(slots: u32) -> u32
     ensures { λ r. ⌜ r ≡ spacing slots ⌝ }
 {
     slot_width(slots) * number_step(slots)
 }
 
-// The width of all slots that are shown.
 pub fn span_of(slots: u32) -> u32
     ensures { λ r. ⌜ r ≡ span slots ⌝ }
 {

@@ -68,7 +68,6 @@ pub fn put_link_marks(out: &mut [u8], at: usize, site: Site, node: u8, slots: u3
     put_marks(out, at, period, offset, slots)
 }
 
-// Whether no child of the parent sends in the slot.
 fn is_idle(site: Site, parent: u8, slot: u32) -> bool
     ensures { λ r. ⌜ r ≡ idle site parent slot ⌝ }
 {
@@ -85,7 +84,6 @@ fn is_idle(site: Site, parent: u8, slot: u32) -> bool
     true
 }
 
-// The marks of the slots in which no child of the parent sends.
 pub fn put_idle_marks(out: &mut [u8], at: usize, site: Site, parent: u8, slots: u32) -> usize
     ensures { λ r. ⌜ (r, now (out .exit)) ≡ puts (at, now (out .entry)) (marks (idle site parent) slots) ⌝ }
 {
@@ -100,7 +98,6 @@ pub fn put_idle_marks(out: &mut [u8], at: usize, site: Site, parent: u8, slots: 
     taken
 }
 
-// How many of the first slots are idle.
 pub fn idle_count(site: Site, parent: u8, slots: u32) -> u32
     ensures { λ r. ⌜ r ≡ idleCount site parent slots ⌝ }
 {

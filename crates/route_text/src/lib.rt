@@ -13,7 +13,6 @@ fn put_hop(out: &mut [u8], at: usize, node: u8) -> usize
     slices::put(out, named, b" &gt; ")
 }
 
-// The links of the route from an entry node up.
 pub fn put_route(out: &mut [u8], at: usize, parents: &[u8], entry: u8) -> usize
     ensures { λ r. ⌜ (r, now (out .exit)) ≡ puts (at, now (out .entry)) (each hop (route (now (parents .entry)) entry)) ⌝ }
 {

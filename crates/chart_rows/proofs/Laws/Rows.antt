@@ -1,6 +1,6 @@
 -- Rows by what the functions below them answer: the scale, a link's entries, and how full a bar is.
 use Prim.Native.Nat.{ℕ, min, max, _*_, _/_, _%_, _≤_, _<_}
-use mathlib.Core.Path.{_≡_, sym, _∙_}
+use mathlib.Core.Path.{_≡_, _∙_}
 use mathlib.Core.List.{List, [], _++_}
 use borrow.Author.Tests.{ne-eqb, le-leb, lt-leb}
 use Rattle.site.specs.declared.Site.{Site}

@@ -1,5 +1,5 @@
 -- Slots that are marked, and the frame of a parent.
-use Prim.Native.Nat.{ℕ, zero, suc, max, _+_, _-_, _≤_, _<_}
+use Prim.Native.Nat.{ℕ, suc, max, _+_, _-_, _≤_, _<_}
 use mathlib.Core.Path.{_≡_, refl, sym, _∙_, ap}
 use mathlib.Core.Bool.{Bool, true, false, not, cond, _&&_}
 use mathlib.Core.List.{List, []}
@@ -20,9 +20,9 @@ use Rattle.schedule.specs.Schedule.{gapsFrom, linkSends}
 use Rattle.text.specs.Put.{puts}
 use Rattle.frames.specs.Marks.{frameOf, mark, markIf, marks, idle}
 
-pub links-few : (links n : ℕ) → n ≡ used links → (n ≤ links) × (n ≤ 63)
+links-within : (links n : ℕ) → n ≡ used links → n ≤ links
 unfolding used
-links-few links n e = (omega (arith, e), omega (arith, e))
+links-within links n e = omega (arith, e)
 
 -- A slot that has the test is marked, and another is not.
 pub mark-here : (test : ℕ → Bool) (t : ℕ) → test t ≡ true → mark t ≡ markIf test t
@@ -68,7 +68,7 @@ module _ (s : Site) (p t n : ℕ) where
   silent-start e = let z : used (s .links) - 0 ≡ used (s .links) = omega arith in record { all = e; upto = omega arith; rest = rw (e, z) }
 
   child-sends : (i : ℕ) (b : Bool) → Silent i → i < n → sends (getD (s .periods) i 0) (getD (s .offsets) i 0) t ≡ b → linkSends s (i + 1) t ≡ b
-  child-sends i b v l h = sym (sends-link s i t (omega (arith, links-few (s .links) n (v .all) .0))) ∙ h
+  child-sends i b v l h = sym (sends-link s i t (omega (arith, links-within (s .links) n (v .all)))) ∙ h
 
   pub silent-met : (i : ℕ) → Silent i → i < n → getD (s .parents) i 0 ≡ p → sends (getD (s .periods) i 0) (getD (s .offsets) i 0) t ≡ true
       → false ≡ idle s p t

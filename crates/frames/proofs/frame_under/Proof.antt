@@ -2,7 +2,8 @@
 use borrow.Author.Needs.{needs}
 use Prim.Native.Nat.{_≤_}
 use mathlib.Core.Path.{refl}
-use Rattle.frames.proofs.Laws.Slots.{links-few, Longest, longest-start, longest-child, longest-other, longest-end}
+use Rattle.report_lines.proofs.Laws.Lines.{links-few}
+use Rattle.frames.proofs.Laws.Slots.{Longest, longest-start, longest-child, longest-other, longest-end}
 use Rattle.frames.proofs.frame_under.Statement.{statement}
 use Rattle.frames.proofs.frame_under.Tie as tie
 
@@ -16,7 +17,7 @@ link-count-requires : tie.Need-link-count-requires Inv-loop μ-loop
 link-count-requires c κs = search needs
 
 loop-holds : tie.Need-loop-holds Inv-loop μ-loop
-loop-holds c = (links-few _ _ (c .link-count .ensures) .1, longest-start _ _ _)
+loop-holds c = (links-few _ _ (c .link-count .ensures), longest-start _ _ _)
 
 sub-i : tie.Need-sub-i Inv-loop μ-loop
 sub-i c = search needs

@@ -3,7 +3,8 @@ use borrow.Author.Needs.{needs}
 use Prim.Native.Nat.{_≤_, _-_}
 use mathlib.Core.Path.{sym, _∙_}
 use mathlib.Core.Logic.{inl, inr}
-use Rattle.frames.proofs.Laws.Slots.{links-few, Silent, silent-start, silent-met, silent-child, silent-other, silent-end}
+use Rattle.report_lines.proofs.Laws.Lines.{links-few}
+use Rattle.frames.proofs.Laws.Slots.{Silent, silent-start, silent-met, silent-child, silent-other, silent-end}
 use Rattle.frames.proofs.is_idle.Statement.{statement}
 use Rattle.frames.proofs.is_idle.Tie as tie
 
@@ -17,7 +18,7 @@ link-count-requires : tie.Need-link-count-requires Inv-loop μ-loop
 link-count-requires c κs = search needs
 
 loop-holds : tie.Need-loop-holds Inv-loop μ-loop
-loop-holds c = (links-few _ _ (c .link-count .ensures) .1, silent-start _ _ _ _ (c .link-count .ensures))
+loop-holds c = (links-few _ _ (c .link-count .ensures), silent-start _ _ _ _ (c .link-count .ensures))
 
 element-copy-out-if1 : tie.Need-element-copy-out-if1 Inv-loop μ-loop
 element-copy-out-if1 c = search needs

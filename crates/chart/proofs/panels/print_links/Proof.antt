@@ -3,7 +3,7 @@ use borrow.Author.Needs.{needs}
 use Prim.Native.Nat.{_+_, _*_, _≤_, _-_}
 use mathlib.Core.Logic.{inl, inr}
 use native.Mathlib.Omega.{arith}
-use Rattle.frames.proofs.Laws.Slots.{links-few}
+use Rattle.report_lines.proofs.Laws.Lines.{links-few}
 use Rattle.chart.proofs.panels.print_links.Statement.{statement}
 use Rattle.chart.proofs.panels.print_links.Tie as tie
 
@@ -17,7 +17,7 @@ link-count-requires : tie.Need-link-count-requires Inv-loop μ-loop
 link-count-requires c κs = search needs
 
 loop-holds : tie.Need-loop-holds Inv-loop μ-loop
-loop-holds c = (links-few _ _ (c .link-count .ensures) .1, omega arith, omega arith)
+loop-holds c = (links-few _ _ (c .link-count .ensures), omega arith, omega arith)
 
 element-copy-out-if1 : tie.Need-element-copy-out-if1 Inv-loop μ-loop
 element-copy-out-if1 c = search needs

@@ -2,7 +2,7 @@
 use borrow.Author.Needs.{needs}
 use Prim.Native.Nat.{_+_, _*_, _≤_, _-_}
 use native.Mathlib.Omega.{arith}
-use Rattle.frames.proofs.Laws.Slots.{links-few}
+use Rattle.report_lines.proofs.Laws.Lines.{links-few}
 use Rattle.chart.proofs.panels.print_panels.Statement.{statement}
 use Rattle.chart.proofs.panels.print_panels.Tie as tie
 
@@ -19,7 +19,7 @@ loads-requires : tie.Need-loads-requires Inv-loop μ-loop
 loads-requires c κs = search needs
 
 loop-holds : tie.Need-loop-holds Inv-loop μ-loop
-loop-holds c = (links-few _ _ (c .before .link-count .ensures) .1, omega arith, omega arith)
+loop-holds c = (links-few _ _ (c .before .link-count .ensures), omega arith, omega arith)
 
 cast-print-panel : tie.Need-cast-print-panel Inv-loop μ-loop
 cast-print-panel c = search needs

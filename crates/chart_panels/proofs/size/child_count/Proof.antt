@@ -8,7 +8,8 @@ use lib.ListN.{getD}
 use borrow.Author.Tests.{eq-eqb, ne-eqb}
 use native.Mathlib.Omega.{arith}
 use Rattle.site.specs.Sites.{used}
-use Rattle.frames.proofs.Laws.Slots.{links-few, Counted, counted-start, counted-more, counted-same, counted-end}
+use Rattle.report_lines.proofs.Laws.Lines.{links-few}
+use Rattle.frames.proofs.Laws.Slots.{Counted, counted-start, counted-more, counted-same, counted-end}
 use Rattle.chart_panels.specs.Size.{childCount}
 use Rattle.chart_panels.proofs.size.child_count.Statement.{statement}
 use Rattle.chart_panels.proofs.size.child_count.Tie as tie
@@ -24,7 +25,7 @@ link-count-requires : tie.Need-link-count-requires Inv-loop μ-loop
 link-count-requires c κs = search needs
 
 loop-holds : tie.Need-loop-holds Inv-loop μ-loop
-loop-holds c = (links-few _ _ (c .link-count .ensures) .1, c .link-count .ensures, omega arith, counted-start _)
+loop-holds c = (links-few _ _ (c .link-count .ensures), c .link-count .ensures, omega arith, counted-start _)
 
 element-copy-out-if1 : tie.Need-element-copy-out-if1 Inv-loop μ-loop
 element-copy-out-if1 c = search needs

@@ -4,7 +4,7 @@ use Prim.Native.Nat.{_+_, _*_, _-_, _≤_}
 use mathlib.Core.Path.{_≡_, refl}
 use native.Mathlib.Omega.{arith}
 use Rattle.site.specs.Sites.{used}
-use Rattle.frames.proofs.Laws.Slots.{links-few}
+use Rattle.report_lines.proofs.Laws.Lines.{links-few}
 use Rattle.chart_panels.specs.Size.{heightTo}
 use Rattle.chart_panels.proofs.Laws.Panels.{height-more, height-all}
 use Rattle.chart_panels.proofs.size.panels_height.Statement.{statement}
@@ -22,7 +22,7 @@ link-count-requires c κs = search needs
 
 loop-holds : tie.Need-loop-holds Inv-loop μ-loop
 unfolding heightTo
-loop-holds c = (links-few _ _ (c .link-count .ensures) .1, c .link-count .ensures, omega arith, omega arith, refl)
+loop-holds c = (links-few _ _ (c .link-count .ensures), c .link-count .ensures, omega arith, omega arith, refl)
 
 cast-child-count : tie.Need-cast-child-count Inv-loop μ-loop
 cast-child-count c = search needs

@@ -5,7 +5,7 @@ use mathlib.Core.Path.{_≡_, refl}
 use mathlib.Core.Logic.{inl, inr}
 use native.Mathlib.Omega.{arith}
 use Rattle.site.specs.Sites.{used}
-use Rattle.frames.proofs.Laws.Slots.{links-few}
+use Rattle.report_lines.proofs.Laws.Lines.{links-few}
 use Rattle.chart_panels.specs.Size.{widthTo}
 use Rattle.chart_panels.proofs.Laws.Panels.{width-more, width-all}
 use Rattle.chart_panels.proofs.size.panels_width.Statement.{statement}
@@ -22,7 +22,7 @@ link-count-requires c κs = search needs
 
 loop-holds : tie.Need-loop-holds Inv-loop μ-loop
 unfolding widthTo
-loop-holds c = (links-few _ _ (c .link-count .ensures) .1, c .link-count .ensures, omega arith, refl)
+loop-holds c = (links-few _ _ (c .link-count .ensures), c .link-count .ensures, omega arith, refl)
 
 cast-node : tie.Need-cast-node Inv-loop μ-loop
 cast-node c = search needs
