@@ -8,7 +8,7 @@ use Rattle.schedule.specs.Schedule.{baseUnder}
 use Rattle.text.specs.Letters.{letters}
 use Rattle.text.specs.Decimal.{decimal}
 use Rattle.frames.specs.Marks.{frameOf, idleCount}
-use Rattle.chart_rows.specs.Scale.{slotWidth, spacing, span}
+use Rattle.chart_rows.specs.Scale.{slotWidth, spacing, slotsSpan}
 
 unfoldable pub parentName : ℕ → List (List ℕ)
 parentName parent = cond (eqb parent 0) (letters "under server (node 0)" ∷ []) (letters "under node " ∷ decimal parent ∷ [])
@@ -52,7 +52,7 @@ columns =
 
 -- The ground of a panel with so many children, one row more for the idle slots, and what its columns say.
 unfoldable pub ground : ℕ → ℕ → List (List ℕ)
-ground slots children = stripes (400 + span slots) 46 (children + 1) ++ columns
+ground slots children = stripes (400 + slotsSpan slots) 46 (children + 1) ++ columns
 
 -- Lines one pixel wide and so far apart, as dashes of a stroke as wide as the rows are high.
 unfoldable pub edges : List ℕ → ℕ → ℕ → ℕ → ℕ → List (List ℕ)
@@ -63,5 +63,5 @@ edges class apart middle height wide =
 -- The edges of the slots, and those of the numbered ones, which reach up to their numbers.
 unfoldable pub grid : ℕ → ℕ → List (List ℕ)
 grid slots children =
-    edges (letters "edges") (slotWidth slots) (56 + 10 * children) (20 + 20 * children) (span slots)
-    ++ edges (letters "ticks") (spacing slots) (54 + 10 * children) (24 + 20 * children) (span slots)
+    edges (letters "edges") (slotWidth slots) (56 + 10 * children) (20 + 20 * children) (slotsSpan slots)
+    ++ edges (letters "ticks") (spacing slots) (54 + 10 * children) (24 + 20 * children) (slotsSpan slots)

@@ -7,7 +7,7 @@ use Rattle.lists.specs.Lists.{sumTo}
 use Rattle.site.specs.declared.Site.{Site}
 use Rattle.site.specs.Sites.{used}
 use Rattle.frames.specs.Marks.{frameOf}
-use Rattle.chart_rows.specs.Scale.{span}
+use Rattle.chart_rows.specs.Scale.{slotsSpan}
 
 -- How many children a parent has.
 unfoldable pub childCount : Site → ℕ → ℕ
@@ -18,7 +18,7 @@ unfoldable pub heightFor : ℕ → ℕ
 heightFor children = cond (eqb children 0) 0 (cond (ltb 12 children) (116 + 20 * children) (100 + 20 * children))
 
 unfoldable pub widthFor : ℕ → ℕ → ℕ
-widthFor children slots = cond (eqb children 0) 0 (448 + span slots)
+widthFor children slots = cond (eqb children 0) 0 (448 + slotsSpan slots)
 
 -- The panels of the first parents stand one below the other, under the heading.
 unfoldable pub heightTo : Site → ℕ → ℕ

@@ -10,7 +10,7 @@ use Rattle.schedule.specs.Schedule.{linkSends}
 use Rattle.text.specs.Letters.{letters}
 use Rattle.text.specs.Decimal.{decimal}
 use Rattle.frames.specs.Marks.{marks, idle}
-use Rattle.chart_rows.specs.Scale.{shown, slotWidth, numberStep, middle}
+use Rattle.chart_rows.specs.Scale.{slotsShown, slotWidth, numberStep, middle}
 
 -- A slot's number, at a place.
 unfoldable pub number : ℕ → ℕ → ℕ → List (List ℕ)
@@ -23,11 +23,11 @@ numberIf slots y slot = cond (eqb (slot % numberStep slots) 0) (number (middle (
 
 -- The numbers of the slots, at a height.
 unfoldable pub axis : ℕ → ℕ → List (List ℕ)
-axis y slots = (letters "<g class=\"numbers\">" ∷ []) ++ (joined (numberIf slots y) (shown slots) 0 ++ (letters "</g>\n" ∷ []))
+axis y slots = (letters "<g class=\"numbers\">" ∷ []) ++ (joined (numberIf slots y) (slotsShown slots) 0 ++ (letters "</g>\n" ∷ []))
 
--- How many of a bar's 80 pixels are filled: at least one for any load, and all of them above the capacity.
-unfoldable pub filled : ℕ → ℕ → ℕ
-filled load capacity = cond (eqb capacity 0) 80 (min 80 (max (min load 1) (80 * load / capacity)))
+-- How many of a bar's 80 pixels are barFilled: at least one for any load, and all of them above the capacity.
+unfoldable pub barFilled : ℕ → ℕ → ℕ
+barFilled load capacity = cond (eqb capacity 0) 80 (min 80 (max (min load 1) (80 * load / capacity)))
 
 unfoldable pub bar : List ℕ → ℕ → List (List ℕ)
 bar class pixels =
@@ -35,7 +35,7 @@ bar class pixels =
 
 -- From nine tenths of the capacity on a link counts as full.
 unfoldable pub fill : ℕ → ℕ → List (List ℕ)
-fill load capacity = cond (leb (9 * capacity) (10 * load)) (bar (letters "full") (filled load capacity)) (bar (letters "load") (filled load capacity))
+fill load capacity = cond (leb (9 * capacity) (10 * load)) (bar (letters "full") (barFilled load capacity)) (bar (letters "load") (barFilled load capacity))
 
 unfoldable pub loadText : ℕ → ℕ → List (List ℕ)
 loadText load capacity =
@@ -43,8 +43,8 @@ loadText load capacity =
     ++ (fill load capacity
     ++ (letters "<text class=\"end\" x=\"404\" y=\"14\">" ∷ decimal load ∷ letters " of " ∷ decimal capacity ∷ letters "</text>\n" ∷ []))
 
-unfoldable pub slotsText : ℕ → ℕ → List (List ℕ)
-slotsText offset period =
+unfoldable pub rowSlots : ℕ → ℕ → List (List ℕ)
+rowSlots offset period =
     letters "<text class=\"grey\" x=\"76\" y=\"14\" font-size=\"11\">from " ∷ decimal offset ∷ letters " every " ∷ decimal period ∷
     letters "</text>\n" ∷ []
 
@@ -65,10 +65,10 @@ rowEnd = letters "\"/></g>\n" ∷ []
 unfoldable pub linkRow : Site → ℕ → ℕ → ℕ → ℕ → List (List ℕ)
 linkRow s node y load slots =
     name node y
-    ++ (slotsText (ofLink (s .offsets) node) (ofLink (s .periods) node)
+    ++ (rowSlots (ofLink (s .offsets) node) (ofLink (s .periods) node)
     ++ (loadText load (ofLink (s .capacities) node)
     ++ (path (letters "sends") (slotWidth slots)
-    ++ (marks (linkSends s node) (shown slots) ++ rowEnd))))
+    ++ (marks (linkSends s node) (slotsShown slots) ++ rowEnd))))
 
 unfoldable pub idleName : ℕ → ℕ → List (List ℕ)
 idleName parent y =
@@ -78,4 +78,4 @@ idleName parent y =
 -- The row of the slots in which no child of the parent sends.
 unfoldable pub idleRow : Site → ℕ → ℕ → ℕ → List (List ℕ)
 idleRow s parent y slots =
-    idleName parent y ++ (path (letters "idle") (slotWidth slots) ++ (marks (idle s parent) (shown slots) ++ rowEnd))
+    idleName parent y ++ (path (letters "idle") (slotWidth slots) ++ (marks (idle s parent) (slotsShown slots) ++ rowEnd))

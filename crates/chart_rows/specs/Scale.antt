@@ -3,9 +3,9 @@ use Prim.Native.Nat.{ℕ, min, _+_, _*_, _/_}
 use mathlib.Core.Bool.{cond}
 use lib.Dec.{leb}
 
--- At most 128 slots are shown.
-unfoldable pub shown : ℕ → ℕ
-shown slots = min slots 128
+-- At most 128 slots are slotsShown.
+unfoldable pub slotsShown : ℕ → ℕ
+slotsShown slots = min slots 128
 
 -- Few slots are drawn wide, many narrow, so that all of them fit.
 unfoldable pub slotWidth : ℕ → ℕ
@@ -19,9 +19,9 @@ numberStep slots = cond (leb slots 36) 1 (cond (leb slots 64) 2 4)
 unfoldable pub spacing : ℕ → ℕ
 spacing slots = slotWidth slots * numberStep slots
 
--- All slots that are shown, side by side.
-unfoldable pub span : ℕ → ℕ
-span slots = slotWidth slots * shown slots
+-- All slots that are slotsShown, side by side.
+unfoldable pub slotsSpan : ℕ → ℕ
+slotsSpan slots = slotWidth slots * slotsShown slots
 
 -- The middle of a slot; slots begin 424 from the left.
 unfoldable pub middle : ℕ → ℕ → ℕ

@@ -10,8 +10,8 @@ ghost use mathlib.Core.Path.{_≡_};
 ghost use Prim.Native.Nat.{_≤_};
 ghost use Rattle.lists.specs.Lists.{joined};
 ghost use Rattle.text.specs.Put.{puts};
-ghost use Rattle.chart_rows.specs.Scale.{shown, middle};
-ghost use Rattle.chart_rows.specs.Rows.{number, numberIf, axis, filled as filled·, bar, fill, loadText, slotsText, name, path, linkRow, idleName, idleRow};
+ghost use Rattle.chart_rows.specs.Scale.{slotsShown, middle};
+ghost use Rattle.chart_rows.specs.Rows.{number, numberIf, axis, barFilled as filled·, bar, fill, loadText, rowSlots, name, path, linkRow, idleName, idleRow};
 
 fn put_number(out: &mut [u8], at: usize, x: u64, y: u64, slot: u32) -> usize
     ensures { λ r. ⌜ (r, now (out .exit)) ≡ puts (at, now (out .entry)) (number x y slot) ⌝ }
@@ -30,7 +30,7 @@ fn middle_of(width: u32, slot: u32) -> u64
 }
 
 fn put_numbers(out: &mut [u8], at: usize, y: u64, slots: u32) -> usize
-    ensures { λ r. ⌜ (r, now (out .exit)) ≡ puts (at, now (out .entry)) (joined (numberIf slots y) (shown slots) 0) ⌝ }
+    ensures { λ r. ⌜ (r, now (out .exit)) ≡ puts (at, now (out .entry)) (joined (numberIf slots y) (slotsShown slots) 0) ⌝ }
 {
     let some = shown_of(slots);
     let width = slot_width(slots);
@@ -107,7 +107,7 @@ fn put_load(out: &mut [u8], at: usize, load: u32, capacity: u16) -> usize
 }
 
 fn put_slots(out: &mut [u8], at: usize, offset: u16, period: u16) -> usize
-    ensures { λ r. ⌜ (r, now (out .exit)) ≡ puts (at, now (out .entry)) (slotsText offset period) ⌝ }
+    ensures { λ r. ⌜ (r, now (out .exit)) ≡ puts (at, now (out .entry)) (rowSlots offset period) ⌝ }
 {
     let begun = text::put_field(
         out,

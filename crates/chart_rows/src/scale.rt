@@ -1,9 +1,9 @@
 // How many slots are shown, and how wide.
 ghost use mathlib.Core.Path.{_≡_};
-ghost use Rattle.chart_rows.specs.Scale.{shown, slotWidth, numberStep, spacing, span};
+ghost use Rattle.chart_rows.specs.Scale.{slotsShown, slotWidth, numberStep, spacing, slotsSpan};
 
 pub(crate) fn shown_of(slots: u32) -> u32
-    ensures { λ r. ⌜ r ≡ shown slots ⌝ }
+    ensures { λ r. ⌜ r ≡ slotsShown slots ⌝ }
 {
     if 128 < slots {
         return 128;
@@ -42,7 +42,7 @@ pub fn spacing_of(slots: u32) -> u32
 }
 
 pub fn span_of(slots: u32) -> u32
-    ensures { λ r. ⌜ r ≡ span slots ⌝ }
+    ensures { λ r. ⌜ r ≡ slotsSpan slots ⌝ }
 {
     slot_width(slots) * shown_of(slots)
 }

@@ -27,7 +27,7 @@ use Rattle.call_text.specs.declared.Asked.{Asked}
 use Rattle.call_text.specs.Lines.{alone, slotWith, slotLine, requestOf, askedOf}
 
 -- A line asks for what its words ask for, unless the first of them begins with `#`.
-pub by-words : (line name : List ℕ) (words : List (List ℕ)) → wordsOf line ≡ name ∷ words → (getD name 0 0 ≡ 35 → ⊥) → askedOf line ≡ requestOf (name ∷ words)
+by-words : (line name : List ℕ) (words : List (List ℕ)) → wordsOf line ≡ name ∷ words → (getD name 0 0 ≡ 35 → ⊥) → askedOf line ≡ requestOf (name ∷ words)
 unfolding askedOf isBlank firstPart
 by-words line name words e n = rw (ne-eqb (getD line 0 0) 35 (λ q. n (begins line e q)), e)
   where

@@ -11,7 +11,7 @@ use Rattle.text.specs.Letters.{letters}
 use Rattle.text.specs.Decimal.{decimal}
 use Rattle.text.specs.Put.{puts}
 use Rattle.frames.specs.Marks.{frameOf, idleCount}
-use Rattle.chart_rows.specs.Scale.{slotWidth, spacing, span}
+use Rattle.chart_rows.specs.Scale.{slotWidth, spacing, slotsSpan}
 use Rattle.chart_panels.specs.Panels.{parentName, counted, firstOnly, opened, figures, title, stripes, columns, ground, edges, grid}
 use Rattle.chart_panels.specs.Size.{childCount, heightFor, widthFor, heightTo, widthTo, panelsHeight, panelsWidth}
 
@@ -43,7 +43,7 @@ module _ (t u : ℕ × List ℕ) where
   unfolding title
   title-as s parent y base frame idle a b c e = e ∙ rw (a, c, b)
 
-module _ (t u : ℕ × List ℕ) (slots children wide : ℕ) (w : wide ≡ span slots) where
+module _ (t u : ℕ × List ℕ) (slots children wide : ℕ) (w : wide ≡ slotsSpan slots) where
   pub ground-as : u ≡ puts t (stripes (400 + wide) 46 (children + 1) ++ columns) → u ≡ puts t (ground slots children)
   unfolding ground
   ground-as e = e ∙ rw w

@@ -5,7 +5,7 @@ use mathlib.Core.Bool.{Bool, true, false, cond}
 use lib.Dec.{leb}
 use native.Mathlib.Nat.{mul-le-mul, mul-le-mul-right}
 use native.Mathlib.Omega.{arith}
-use Rattle.chart_rows.specs.Scale.{shown, slotWidth, numberStep, spacing, span}
+use Rattle.chart_rows.specs.Scale.{slotsShown, slotWidth, numberStep, spacing, slotsSpan}
 
 pub width-fits : (slots width : ℕ) → width ≡ slotWidth slots → (1 ≤ width) × (width ≤ 28)
 unfolding slotWidth
@@ -29,8 +29,8 @@ step-fits slots step e = rw e (go (leb slots 36) (leb slots 64))
 pub place-most : (width slot : ℕ) → width ≤ 28 → width * slot ≤ 28 * slot
 place-most width slot l = mul-le-mul-right slot l
 
-pub span-most : (slots width n : ℕ) → width ≡ slotWidth slots → n ≡ shown slots → width * n ≤ 3584
-unfolding shown
+pub span-most : (slots width n : ℕ) → width ≡ slotWidth slots → n ≡ slotsShown slots → width * n ≤ 3584
+unfolding slotsShown
 span-most slots width n a b = mul-le-mul {n₂ = 28} {m₂ = 128} (width-fits slots width a .1) (omega (arith, b))
 
 pub spacing-most : (slots width step : ℕ) → width ≡ slotWidth slots → step ≡ numberStep slots → width * step ≤ 112
@@ -44,6 +44,6 @@ pub spacing-some : (slots apart : ℕ) → apart ≡ spacing slots → 1 ≤ apa
 unfolding spacing
 spacing-some slots apart e = rw e (mul-le-mul {n₁ = 1} {m₁ = 1} (width-fits slots (slotWidth slots) refl .0) (step-fits slots (numberStep slots) refl .0))
 
-pub span-as : (slots width n : ℕ) → width ≡ slotWidth slots → n ≡ shown slots → width * n ≡ span slots
-unfolding span
+pub span-as : (slots width n : ℕ) → width ≡ slotWidth slots → n ≡ slotsShown slots → width * n ≡ slotsSpan slots
+unfolding slotsSpan
 span-as slots width n a b = rw (a, b)

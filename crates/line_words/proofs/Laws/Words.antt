@@ -54,7 +54,7 @@ module _ (line : List ℕ) where
       words-blank from (omega arith) (not-false _ (none from (omega arith) (omega arith)))
       ∙ skipped n (from + 1) r l (λ i a b. none i (omega arith) b) (omega arith)
 
-  pub words-from : (from r : ℕ) → Reaches isLetter line from r → wordsOf (drop from line) ≡ wordsOf (drop r line)
+  words-from : (from r : ℕ) → Reaches isLetter line from r → wordsOf (drop from line) ≡ wordsOf (drop r line)
   words-from from r w = elim (decLt r from) [
     | yes l ↦ words-end from (omega (arith, w .onward)) ∙ sym (words-end r (omega (arith, w .onward)))
     | no l ↦ skipped (r - from) from r (w .within) (w .passed) (omega arith)

@@ -14,17 +14,17 @@ use Rattle.lists.proofs.Laws.Search.{lt-or-le}
 use Rattle.testlib_text.specs.Hex.{hexValue, hexValues, paired, hexBytes, hexStored, filled}
 
 -- With room for all of the bytes, and without.
-pub filled-room : (bytes out : List ℕ) → length bytes ≤ length out → filled bytes out ≡ (length bytes, bytes ++ drop (length bytes) out)
+filled-room : (bytes out : List ℕ) → length bytes ≤ length out → filled bytes out ≡ (length bytes, bytes ++ drop (length bytes) out)
 unfolding filled
 filled-room bytes out l = let m : min (length bytes) (length out) ≡ length bytes = omega arith in rw (m, take-all (length out) bytes l)
 
-pub filled-full : (bytes out : List ℕ) → length out ≤ length bytes → filled bytes out ≡ (length out, take (length out) bytes)
+filled-full : (bytes out : List ℕ) → length out ≤ length bytes → filled bytes out ≡ (length out, take (length out) bytes)
 unfolding filled
 filled-full bytes out l =
     let m : min (length bytes) (length out) ≡ length out = omega arith in rw (m, drop-of-length-le out l, append-nil)
 
 -- The space stays as long as it is, and what was stored stands at its front.
-pub filled-long : (bytes out : List ℕ) → length (filled bytes out .1) ≡ length out
+filled-long : (bytes out : List ℕ) → length (filled bytes out .1) ≡ length out
 unfolding filled
 filled-long bytes out = simp (length-append, length-take, length-drop) (omega arith)
 

@@ -141,14 +141,14 @@ module _ (line : List ℕ) (start : ℕ) where
   start-digit l = first-passes (λ i. isDigit (getD line i 0)) (length line - start) start (omega arith)
 
   -- Behind the start, as long as something of the line is left.
-  pub number-after : start < length line → start < numberFrom line start .next
+  number-after : start < length line → start < numberFrom line start .next
   unfolding numberFrom
   number-after h = elim (lt-or-le (numberStart line start) (length line)) [
     | inl l ↦ rw (lt-ltb _ _ l) (omega (arith, start-from, end-after line (numberStart line start) l (start-digit l)))
     | inr l ↦ rw (le-ltb _ _ l) h
   ]
 
-  pub number-within : numberFrom line start .next ≤ length line
+  number-within : numberFrom line start .next ≤ length line
   unfolding numberFrom
   number-within = elim (lt-or-le (numberStart line start) (length line)) [
     | inl l ↦ rw (lt-ltb _ _ l) (end-within line (numberStart line start) (omega arith))

@@ -1,7 +1,7 @@
 -- Right because the words and numbers are put one behind the other.
 use borrow.Author.Needs.{needs}
 use Rattle.text.proofs.Laws.Put.{puts-one, puts-then}
-use Rattle.chart_rows.specs.Rows.{slotsText}
+use Rattle.chart_rows.specs.Rows.{rowSlots}
 use Rattle.chart_rows.proofs.rows.put_slots.Statement.{statement}
 use Rattle.chart_rows.proofs.rows.put_slots.Tie as tie
 
@@ -27,7 +27,7 @@ same-length : tie.Need-same-length
 same-length c = search needs
 
 returns : tie.Need-returns
-unfolding slotsText
+unfolding rowSlots
 returns c =
     let end = c .before .before in
     let again = end .before .before .before .before .before in
