@@ -34,7 +34,7 @@ use Rattle.witness.specs.Lists.{played, stateP, arrivalsP, acceptedFrom,
 use Rattle.witness.specs.Lists.{pacedSlots, pacedLog}
 
 -- What is played is a run.
-played-run : (σ₀ : State) (cs : List Call) (l : Log) (σ : State) → Run own σ₀ l σ → Run own σ₀ (played cs l σ .0) (played cs l σ .1)
+pub played-run : (σ₀ : State) (cs : List Call) (l : Log) (σ : State) → Run own σ₀ l σ → Run own σ₀ (played cs l σ .0) (played cs l σ .1)
 unfolding played
 played-run σ₀ [] l σ run = run
 played-run σ₀ (c ∷ cs) l σ run = played-run σ₀ cs _ _ (then c (called own c σ .0) (called own c σ .1) run (promised own c σ))
@@ -175,9 +175,8 @@ waiting-tight claim =
     let w = claim 0 stateP _ _ seventeen begins-p (rw (sixteen-played .log) seventeen-allowed) in
     omega (arith, sixteen-played .wait, rw bound-p at (w .1))
 
--- Flow 5, which 02, U2, lets in, meets both bounds too. After its slots 2 to 4 nothing is delivered; in slot 5, when its arrivals have joined, 16 =
--- rate × G wait, and all of
--- them leave in that slot: link 2's width is just so many.
+-- Flow 5, which 02, U2, lets in, meets both bounds too. After its slots 2 to 4 nothing is delivered; in slot 5, when its arrivals have joined,
+-- 16 = rate × G wait, and all of them leave in that slot: link 2's width is just so many.
 pub record FivePlayed : Type 0 where
   pub answer : called own (admit flowFive) stateP ≡ (accepted tt, stateFive)
   pub rate : rateOf (stateFive .site) 5 ≡ 4
