@@ -25,7 +25,7 @@ numberIf slots y slot = cond (eqb (slot % numberStep slots) 0) (number (middle (
 unfoldable pub axis : ℕ → ℕ → List (List ℕ)
 axis y slots = (letters "<g class=\"numbers\">" ∷ []) ++ (joined (numberIf slots y) (slotsShown slots) 0 ++ (letters "</g>\n" ∷ []))
 
--- How many of a bar's 80 pixels are barFilled: at least one for any load, and all of them above the capacity.
+-- How many of a bar's 80 pixels are filled: at least one for any load, and all of them above the capacity.
 unfoldable pub barFilled : ℕ → ℕ → ℕ
 barFilled load capacity = cond (eqb capacity 0) 80 (min 80 (max (min load 1) (80 * load / capacity)))
 

@@ -3,7 +3,7 @@ use Prim.Native.Nat.{ℕ, min, _+_, _*_, _/_}
 use mathlib.Core.Bool.{cond}
 use lib.Dec.{leb}
 
--- At most 128 slots are slotsShown.
+-- At most 128 slots are shown.
 unfoldable pub slotsShown : ℕ → ℕ
 slotsShown slots = min slots 128
 
@@ -19,7 +19,7 @@ numberStep slots = cond (leb slots 36) 1 (cond (leb slots 64) 2 4)
 unfoldable pub spacing : ℕ → ℕ
 spacing slots = slotWidth slots * numberStep slots
 
--- All slots that are slotsShown, side by side.
+-- All slots that are shown, side by side.
 unfoldable pub slotsSpan : ℕ → ℕ
 slotsSpan slots = slotWidth slots * slotsShown slots
 

@@ -17,7 +17,7 @@ fn scheduled(site: Site, out: &mut [u8]) -> u64
     host_answers::size(schedule_writer::encode_schedule(schedule_writer::schedule_of(site), out))
 }
 
-// How many links and flows a plan has.
+// What refuses the reading is told as it is: by this call a host learns what is wrong with its bytes.
 pub fn read_plan(plan: &[u8]) -> u64
     ensures { λ r. ⌜ told r ≡ planReadFrom (now (plan .entry)) ⌝ }
 {
@@ -29,7 +29,7 @@ pub fn read_plan(plan: &[u8]) -> u64
     }
 }
 
-// The schedule of a plan.
+// The site was just read, so that only the slice is left to judge.
 pub fn schedule(plan: &[u8], out: &mut [u8]) -> u64
     ensures { λ r. ⌜ (told r, now (out .exit)) ≡ scheduleFrom (now (plan .entry)) (now (out .entry)) ⌝ }
 {
@@ -41,7 +41,7 @@ pub fn schedule(plan: &[u8], out: &mut [u8]) -> u64
     }
 }
 
-// A rehearsal starts.
+// Bytes that read to no site are 14 here and in every call below: they are no live site.
 pub fn start(plan: &[u8], counters: &mut [u32]) -> u64
     ensures { λ r. ⌜ (told r, now (counters .exit)) ≡ startFrom (now (plan .entry)) (now (counters .entry)) ⌝ }
 {
@@ -91,7 +91,7 @@ pub fn sender(plan: &[u8], parent: u8, slot: u32) -> u64
     }
 }
 
-// The bound of a flow.
+// 5 and 16 as for a release, since only a live flow has a bound.
 pub fn bound(plan: &[u8], number: u8) -> u64
     ensures { λ r. ⌜ told r ≡ boundFrom (now (plan .entry)) number ⌝ }
 {

@@ -56,7 +56,7 @@ fn released(site: Site, counters: &mut [u32], number: u8, out: &mut [u8]) -> u64
     }
 }
 
-// The plan with a flow more.
+// The operands come one by one, since C has no value of a flow; a plan that reads to no site is 14.
 pub fn admit(
     plan: &[u8],
     counters: &mut [u32],
@@ -88,7 +88,7 @@ pub fn admit(
     }
 }
 
-// The plan with a flow less.
+// The old bytes stay as they are, so that a host can go back where the slice was too short.
 pub fn release(plan: &[u8], counters: &mut [u32], number: u8, out: &mut [u8]) -> u64
     ensures { λ r. ⌜ (told r, now (counters .exit), now (out .exit))
         ≡ releaseFrom (now (plan .entry)) (now (counters .entry)) number (now (out .entry)) ⌝ }

@@ -32,7 +32,7 @@ fn fill(entries: [u16; 63], list: &mut [u16])
     }
 }
 
-// Fills both lists; tells the number of links.
+// Both lists are filled whole: what stood past the links is no part of a schedule.
 fn given(schedule: Schedule, offsets: &mut [u16], periods: &mut [u16]) -> u64
     requires { ⌜ (length (now offsets) ≡ 63) × (length (now periods) ≡ 63) ⌝ }
     ensures { λ r. ⌜ (told r, now (offsets .exit), now (periods .exit)) ≡ linksOf schedule ⌝ }
@@ -44,7 +44,7 @@ fn given(schedule: Schedule, offsets: &mut [u16], periods: &mut [u16]) -> u64
     schedule.links as u64
 }
 
-// The offsets and periods of a schedule file.
+// 1 comes first, so that a list that cannot hold a schedule is told before the file is read.
 pub fn read_schedule(file: &[u8], offsets: &mut [u16], periods: &mut [u16]) -> u64
     ensures { λ r. ⌜ (told r, now (offsets .exit), now (periods .exit))
         ≡ scheduleReadFrom (now (file .entry)) (now (offsets .entry)) (now (periods .entry)) ⌝ }
@@ -63,7 +63,7 @@ pub fn read_schedule(file: &[u8], offsets: &mut [u16], periods: &mut [u16]) -> u
     }
 }
 
-// The file of a schedule.
+// The lists are judged by check 14 of a schedule, since a host may have made them.
 pub fn write_schedule(links: u8, offsets: &[u16], periods: &[u16], out: &mut [u8]) -> u64
     ensures { λ r. ⌜ (told r, now (out .exit))
         ≡ scheduleWrittenFrom links (now (offsets .entry)) (now (periods .entry)) (now (out .entry)) ⌝ }
@@ -82,7 +82,7 @@ pub fn write_schedule(links: u8, offsets: &[u16], periods: &[u16], out: &mut [u8
     host_answers::size(schedule_writer::write_schedule_of(schedule, out))
 }
 
-// The slot rule alone.
+// 01: the slot rule is usable without plans, bytes or flows.
 pub fn assign(gaps: &[u16], offsets: &mut [u16], periods: &mut [u16]) -> u64
     ensures { λ r. ⌜ (told r, now (offsets .exit), now (periods .exit))
         ≡ assigned 2 (now (gaps .entry)) (now (offsets .entry)) (now (periods .entry)) ⌝ }

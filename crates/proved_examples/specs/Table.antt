@@ -1,5 +1,5 @@
--- The starred examples of 01, "Marked plans", with those that 02 puts in their place, as one table. A row names an input and its whole result; what it claims is said by the
--- definitions that the promises cite.
+-- The starred examples of 01, "Marked plans", with those that 02 puts in their place, as one table. A row names an input and its whole result; what it
+-- claims is said by the definitions that the promises cite.
 use Prim.Native.Nat.{ℕ, zero, suc, _+_}
 use mathlib.Core.Path.{_≡_}
 use mathlib.Core.List.{List, [], _∷_, _++_}
