@@ -22,7 +22,7 @@ unfoldable pub lookupText : Outcome ℕ → List (List ℕ)
 lookupText (accepted child) = letters "sender " ∷ decimal child ∷ []
 lookupText (refused number place) = refusal number place
 
--- The nine cells of a flow number, where there are so many counters: its queues from the entry link upward, then the delivered count.
+-- The nine cells of a flow number, where there are so many counters: its eight queues, that of the entry link first, and what was delivered.
 unfoldable pub cellsText : List ℕ → ℕ → List (List ℕ)
 cellsText counters number =
     letters "cells" ∷ cond (leb (9 * number + 9) (length counters)) (each spacedDecimal (take 9 (drop (9 * number) counters))) []

@@ -122,8 +122,8 @@ newest-is [] a older r = omega arith
 newest-is (e ∷ []) a older r = omega (arith, r .0)
 newest-is (e ∷ d ∷ newer) a older r = omega (arith, r .0, newest-is (d ∷ newer) a older (r .1))
 
--- Demand 3 in packet numbers: packets are numbered from 1 as they arrive in the list, and packet n of those up to accepted slot a has left by the end of accepted slot
--- a + G - 1.
+-- Demand 3 in packet numbers: the packets of a list have numbers in the order of their arrival, the first 1, and packet n of those up to accepted slot a
+-- has left by the end of accepted slot a + G - 1.
 pub packet-left : (f : ℕ) (σ₀ : State) (l : Log) (σ : State) → Run own σ₀ l σ → Begins f σ₀ → Allowed f (σ₀ .site) l
     → (newer older : List Entry) (a : Entry) → slotsOf f l ≡ newer ++ a ∷ older → a .number + boundOf own (σ₀ .site) f - 1 ≤ newest (slotsOf f l)
     → (n : ℕ) → n ≤ total (arrivals (a ∷ older)) → HasLeft n (cellsOf f (σ .counters))

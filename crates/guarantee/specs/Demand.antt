@@ -43,7 +43,7 @@ NoStart (release m, r) = Unit
 NoStart (start, accepted a) = ⊥
 NoStart (start, refused n p) = Unit
 
--- A flow's rate, its deadline, and G: by the site's own schedule the sum of the periods on its route.
+-- A flow's rate, its deadline, and G: by the site's own schedule the periods along its route, summed.
 abbrev pub rateOf : Site → ℕ → ℕ
 rateOf s f = getD (s .rates) f 0
 
@@ -53,7 +53,7 @@ deadlineOf s f = getD (s .deadlines) f 0
 abbrev pub boundOf : Service → Site → ℕ → ℕ
 boundOf v s f = span (hopsOf v s f)
 
--- 01: a list begins with any site that check 14 lets pass and with 576 counters; flow f is live, and its nine cells are 0.
+-- 01, how a list begins: the site is any one that passes check 14, there are 576 counters, and flow f is live with nine cells of 0.
 pub record Begins (f : ℕ) (σ : State) : Type 0 where
   pub passes : passesOf (σ .site) ≡ true
   pub counted : length (σ .counters) ≡ 576
@@ -68,12 +68,12 @@ pub record Allowed (f : ℕ) (s : Site) (l : Log) : Type 0 where
   pub rising : Rising (slotsOf f l)
   pub rated : Within (rateOf s f) (slotsOf f l)
 
--- 01: each call was accepted, or refused by its first failing check, and its answer tells which.
+-- 01: each call has the outcome that its first failing check gives it, and says so in its answer.
 unfoldable pub Answered : {v : Service} {σ₀ : State} {l : Log} {σ : State} → Run v σ₀ l σ → Type 0
 Answered none = Unit
 Answered (then {σ = σ} c r σ′ run p) = Ruled nothing (checksOf c σ) r × Answered run
 
--- 01: at most n packets of flow f wait in an accepted slot, when its arrivals have just joined ..
+-- 01: at most n packets of flow f wait in an accepted slot at the moment when what arrived has joined ..
 unfoldable pub WaitsJoined : ℕ → ℕ → Call → Ruling → State → Type 0
 WaitsJoined f n (slot t xs) (accepted a) σ = waiting (arrived (getD xs f 0) (cellsOf f (σ .counters))) ≤ n
 WaitsJoined f n (slot t xs) (refused m p) σ = Unit
@@ -88,7 +88,7 @@ Waits f n (then {σ = σ} c r σ′ run p) = (waiting (cellsOf f (σ′ .counter
 
 -- 01, after every list:
 pub record Kept (v : Service) (f : ℕ) (σ₀ : State) (l : Log) (σ : State) (run : Run v σ₀ l σ) : Type 0 where
-  -- each call was accepted or refused as the checks say, and its answer tells which;
+  -- each call has the outcome of its checks, and its answer says so;
   pub answers : Answered run
   -- the flow's nine cells are what the rules of 'One slot' give from nine zeros, its hops and the accepted slots alone;
   pub cells : cellsOf f (σ .counters) ≡ steps (hopsOf v (σ₀ .site) f) (zeros 9) (slotsOf f l)

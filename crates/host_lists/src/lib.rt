@@ -82,7 +82,7 @@ pub fn write_schedule(links: u8, offsets: &[u16], periods: &[u16], out: &mut [u8
     host_answers::size(schedule_writer::write_schedule_of(schedule, out))
 }
 
-// 01: the slot rule is usable without plans, bytes or flows.
+// 01 wants the slot rule by itself, for those who have neither a plan nor flows.
 pub fn assign(gaps: &[u16], offsets: &mut [u16], periods: &mut [u16]) -> u64
     ensures { λ r. ⌜ (told r, now (offsets .exit), now (periods .exit))
         ≡ assigned 2 (now (gaps .entry)) (now (offsets .entry)) (now (periods .entry)) ⌝ }

@@ -21,6 +21,6 @@ unfoldable pub hopsAlong : (ℕ → Hop) → List ℕ → List Hop
 hopsAlong hop [] = []
 hopsAlong hop (node ∷ nodes) = hop node ∷ hopsAlong hop nodes
 
--- 01, the list of demand 3: the route of flow n, the links from its entry node up to the root.
+-- 01, the list of demand 3: the links that flow n goes over, its entry node's first.
 unfoldable pub hopsOf : Service → Site → ℕ → List Hop
 hopsOf v s n = hopsAlong (v s (getD (s .rates) n 0)) (routeOf s n)

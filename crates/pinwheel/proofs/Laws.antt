@@ -41,7 +41,7 @@ module _ (f : ℕ) (two : 2 ≤ f) where
       ((exponent f b g, refl), period-within f two b g h, λ j m. mul-le-mul-left b (powers f two j (exponent f b g) (exponent-most f two b g j one m)))
 
   -- Rule 3. With L = base × factor^J, a common multiple of the periods, a base fits just when the sum of L / period is at most L:
-  -- the reciprocals of the periods sum to at most 1.
+  -- so 1 / period, summed over the children, is no more than 1.
   pub fits-reciprocals : (b : ℕ) (gaps : List ℕ) → 1 ≤ b
       → ((i : ℕ) → i < length gaps → limit f b gaps / period f b (getD gaps i 0) * period f b (getD gaps i 0) ≡ limit f b gaps)
       × ((fits f b gaps ≡ true) ↔ (total (map (λ g. limit f b gaps / period f b g) gaps) ≤ limit f b gaps))

@@ -238,7 +238,7 @@ schedule-foreign s out =
     let w = foreign (schedulePasses s) (scheduleBytes s) out _ (schedule-passes-when s) in
     (λ e bytes small r. w .0 e (bytes, small, r), λ n. w .1 (λ v. n (v .0) (v .1) (v .2)))
 
--- A file that the writer made, from a schedule or from a site, reads back to the schedule that made it; what stood behind it in the slice stands there still.
+-- A file that the writer made, from a schedule or from a site, reads to that schedule again; what stood behind it in the slice stands there still.
 pub schedule-made : (s : Schedule) (out new : List ℕ) (size : ℕ) → scheduleWritten s out ≡ (accepted size, new)
     → (scheduleRead (take size new) ≡ accepted s) × (drop size new ≡ drop size out)
 schedule-made s out new size e =

@@ -54,7 +54,7 @@ formerForm (refused number place) = refused number place
 unfoldable pub formerRead : List ℕ → Outcome Site
 formerRead bytes = formerForm (decode bytes)
 
--- In words: the widths on every link, by wanted gaps, sum to at most its capacity.
+-- In words: by wanted gaps, no link has widths whose sum is above its capacity.
 pub record FormerlyCarried (s : Site) : Type 0 where
   pub within : (m : ℕ) → 1 ≤ m → m ≤ s .links → formerLoad s m ≤ ofLink (s .capacities) m
 

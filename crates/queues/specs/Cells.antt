@@ -17,7 +17,7 @@ unfoldable pub arrived : ℕ → List ℕ → List ℕ
 arrived x [] = []
 arrived x (queue ∷ cells) = (queue + x) ∷ cells
 
--- 01: a sending link moves the smaller of queue and width.
+-- 01: of a queue longer than the width a link that sends moves the width, else all of it.
 unfoldable pub moved : Hop → ℕ → ℕ → ℕ
 moved h t queue = cond (h .sends t) (min queue (h .width)) 0
 

@@ -8,7 +8,7 @@ ghost use Rattle.rulings.specs.Outcome.{ruling};
 ghost use Rattle.report_lines.specs.Lines.{refusal, refusalLine, verdictText, slotsText};
 ghost use Rattle.slices.specs.Written.{writing, written};
 
-// 01: every refusal is a number with a place. The line stays open, since an answer of `rehearse` ends its own.
+// 01: number and place. The line stays open, since an answer of `rehearse` ends its own.
 pub fn put_refusal(out: &mut [u8], at: usize, number: u8, place: usize) -> usize
     ensures { λ r. ⌜ (r, now (out .exit)) ≡ puts (at, now (out .entry)) (refusal number place) ⌝ }
 {
@@ -26,7 +26,7 @@ pub fn put_verdict(out: &mut [u8], at: usize, verdict: Verdict) -> usize
     }
 }
 
-// 01: a refusal prints one line, as `refused 13 0`.
+// 01: of a refused plan this line is all that is printed.
 pub fn put_refusal_line(out: &mut [u8], at: usize, number: u8, place: usize) -> usize
     ensures { λ r. ⌜ (r, now (out .exit)) ≡ puts (at, now (out .entry)) (refusalLine number place) ⌝ }
 {

@@ -114,7 +114,7 @@ pub fn first_faults(site: Site) -> Faults
     }
 }
 
-// 01, 17: the first link from the flow's entry node up on which its width does not fit beside the live ones, or 0.
+// 01, 17: the first link from the flow's entry node up that has no room for its width besides those of the live flows, or 0.
 pub fn first_unfit(site: Site, flow: Flow) -> u8
     ensures { λ r. ⌜ r ≡ firstUnfit site (flow .rate) (route (site .parents) (flow .entry)) ⌝ }
 {

@@ -14,6 +14,6 @@ ofLists links offsets periods = record { links = links; offsets = offsets; perio
 abbrev pub withoutLinks : Schedule
 withoutLinks = ofLists 0 (replicate 63 0) (replicate 63 0)
 
--- 02, 22: the period is outside 1 to 1,024, or the offset is not below it.
+-- 02, 22: a period of 0 or above 1,024, or an offset that is not below it.
 unfoldable pub badSlots : ℕ → ℕ → Bool
 badSlots offset period = ltb period 1 || (ltb 1024 period || leb period offset)

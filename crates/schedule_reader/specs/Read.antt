@@ -20,7 +20,7 @@ withLinks o = orElse withoutLinks o
 unfoldable pub linkAt : List ℕ → ℕ → Link
 linkAt bytes at = record { node = numberAt 1 bytes (at + 1); offset = numberAt 2 bytes (at + 2); period = numberAt 2 bytes (at + 4) }
 
--- 02, 21: link numbers are 1, 2, 3 up to at most 63 in order. A LINK behind so many others has not the next number, or there is none left.
+-- 02, 21: links are numbered from 1 without a gap, and 63 is the last number. A LINK behind so many others has not the next number, or there is none left.
 unfoldable pub outOfOrder : ℕ → ℕ → Bool
 outOfOrder links node = leb 63 links || not (eqb node (links + 1))
 

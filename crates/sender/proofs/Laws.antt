@@ -34,7 +34,7 @@ sends-when s p t n = (
 )
 
 module _ (s : Site) (e : passesOf s ≡ true) (p t : ℕ) where
-  -- Two children of one parent never send in the same slot.
+  -- No slot is one of two children of a parent.
   pub sender-one : (n m : ℕ) → ChildSends s p t n → ChildSends s p t m → n ≡ m
   sender-one n m a b =
       elim (ℕ-discrete n m) [

@@ -1,4 +1,4 @@
--- 01, One slot: a lookup of parent and slot gives the sending child, or 0.
+-- 01, One slot: which child of a parent sends in a slot, 0 where none does.
 use Prim.Native.Nat.{ℕ}
 use mathlib.Core.Bool.{Bool, not, cond, _&&_}
 use lib.Dec.{eqb, ltb}

@@ -27,7 +27,7 @@ emptySite = record {
 unfoldable pub used : ℕ → ℕ
 used links = min links 63
 
--- 01: a flow is live from its FLOW, or its admission, to its release; its state is then 1.
+-- 01, live: what a FLOW or an admission brought in and no release has taken out; its state is 1.
 unfoldable pub live : Site → ℕ → Bool
 live s n = eqb (getD (s .states) n 0) 1
 

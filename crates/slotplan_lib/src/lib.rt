@@ -118,7 +118,7 @@ pub extern "C" fn slotplan_bound(plan: &[u8], number: u8) -> u64
     host_calls::bound(plan, number)
 }
 
-// 01: the slot rule is usable without plans, bytes or flows.
+// 01 wants the slot rule by itself, for those who have neither a plan nor flows.
 #[no_mangle]
 pub extern "C" fn slotplan_assign(gaps: &[u16], offsets: &mut [u16], periods: &mut [u16]) -> u64
     ensures { λ r. ⌜ (told r, now (offsets .exit), now (periods .exit))

@@ -255,7 +255,7 @@ impl Watch {
         self.flows[flow] = Some(watched);
     }
 
-    /// 01: an accepted start counts as the admission of every live flow.
+    /// 01: an accepted start is to each live flow what its admission was.
     pub fn started(&mut self, site: &Site, packets: &Packets) {
         for flow in site.live_flows() {
             self.begin(site, packets, flow);

@@ -58,7 +58,7 @@ fn check_counters(counters: &[u32]) -> Result<(), Refusal> {
     Ok(())
 }
 
-/// Makes a change of the site and writes the new bytes. 01: the slice that a writer fills is judged last, and lent memory is
+/// Makes a change of the site and writes the new bytes. 01: whether the slice has room comes after every other check, and lent memory is
 /// unchanged by a refusal, so the counters are set only when the bytes are written.
 fn change(
     plan: &[u8],

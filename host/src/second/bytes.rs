@@ -173,7 +173,7 @@ pub fn check_14(site: &Site) -> Result<(), Refusal> {
     Ok(())
 }
 
-/// 01: the slice that a writer fills is judged last.
+/// 01: whether the slice has room is the last of a writer's checks.
 pub fn fill(slice: &mut [u8], bytes: &[u8]) -> Result<usize, Refusal> {
     if slice.len() < bytes.len() {
         return refuse(1, 0);

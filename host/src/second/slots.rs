@@ -12,7 +12,7 @@ pub struct Batch {
     pub count: u64,
 }
 
-/// 01, "One slot": each flow's packets leave first come, first served.
+/// 01, "One slot": what came earlier of a flow leaves earlier.
 #[derive(Clone, Debug, Default)]
 struct Queue {
     batches: VecDeque<Batch>,

@@ -183,7 +183,7 @@ fn a_slot_without_links_refused_by_14_is_found() {
     tells(slot, "slot", accepted, input);
 }
 
-/// 01: the root always counts as a node for a lookup.
+/// 01: a lookup takes the root for a node, whatever the site has.
 #[test]
 fn a_root_without_children_refused_is_found() {
     let judged = Functions {
