@@ -1,4 +1,4 @@
--- What is proved of sites: what the searches of 12, 13 and 17 find, in words. The modules named here hold the lemmas, and the laws of routes, depths and loads.
+-- What is proved of reservations: what the searches of 12, 13 and 17 find, in words. The module named here holds the lemmas.
 pub mod Reservations
 use Prim.Native.Nat.{ℕ, zero, suc, _+_, _*_, _≤_, _<_}
 use mathlib.Core.Path.{_≡_, refl}

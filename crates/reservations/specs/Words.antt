@@ -1,4 +1,4 @@
--- Routes and reservations in words of 'for all' and 'exists'. The laws of proofs/Laws.antt, and those of the crates above, say that the definitions mean this.
+-- Reservations in words of 'for all' and 'exists'. The laws of proofs/Laws.antt say that the definitions mean this.
 use Prim.Native.Nat.{ℕ, _+_, _*_, _≤_, _<_}
 use mathlib.Core.Path.{_≡_}
 use mathlib.Core.Bool.{true}

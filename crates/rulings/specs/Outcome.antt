@@ -45,7 +45,7 @@ Ruled gives (check number fails rest) o = ((p : ℕ) × (o ≡ refused number p)
 abbrev pub nothing : Unit {0} → Type 0
 nothing a = Unit {0}
 
--- What each case of a verdict says in 01's terms; the site stands beside it.
+-- What each case of a verdict says in 01's terms; what an accepted call gives stands beside it.
 abbrev pub ruling : Verdict → Ruling
 ruling Accepted = accepted tt
 ruling (Refused number place) = refused number place

@@ -1,5 +1,4 @@
--- What is proved of sites: what the judgement of 11, 12 and 13 means, which gaps the slot rule is asked for, and what the slots of a site are that has
--- its own schedule. The modules named here hold the lemmas.
+-- What is proved of a site's schedule: which gaps the slot rule is asked for, and what the slots of links have. The modules named here hold the lemmas.
 pub mod Schedule
 pub mod Wanted
 pub mod Slots

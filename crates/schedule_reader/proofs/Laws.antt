@@ -1,5 +1,5 @@
--- What is proved of schedules without the writers: what the checks of a LINK and check 14 mean, and that the first 1,024 bytes settle every reading. The modules
--- named here hold the lemmas; crate `plan` has what readings mean.
+-- What is proved of schedule files without the writers: what a refused one gives, and that the first 1,024 bytes settle each. The modules named here hold
+-- the lemmas.
 pub mod Commands
 pub mod Readings
 use Prim.Native.Nat.{ℕ, _≤_}

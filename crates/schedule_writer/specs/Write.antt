@@ -25,5 +25,6 @@ scheduleOf s = record { links = s .links; offsets = s .offsets; periods = s .per
 unfoldable pub scheduleBytes : Schedule → List ℕ
 scheduleBytes s = joined (linkBytes s) (s .links) 0 ++ (255 ∷ [])
 
+-- 02, U1, the same of a schedule by itself, which has a check 14 of its own.
 abbrev pub scheduleWritten : Schedule → List ℕ → Outcome ℕ × List ℕ
 scheduleWritten s out = handed (schedulePasses s) (scheduleBytes s) out

@@ -1,5 +1,5 @@
--- What is proved of the lookup of a slot's sender: which child it gives, that there is never a second one, and which check refuses it. And of a slot and a start: when
--- each is accepted, which check refuses it with which place, and what each leaves. The modules named here hold a law for each answer of the code, and the lemmas.
+-- What is proved of a slot and a start: when each is accepted, which check refuses it, what each leaves, and what a slot is without check 14. The module
+-- named here holds the lemmas.
 pub mod Answers
 use Prim.Native.Nat.{ℕ, _+_, _<_}
 use mathlib.Core.Path.{_≡_, refl, sym}

@@ -1,4 +1,4 @@
--- The lookup of a slot's sender, a slot and a start in words of 'for all' and 'exists'. The laws of proofs/Laws.antt say that the definitions mean this.
+-- A slot and a start in words of 'for all' and 'exists'. The laws of proofs/Laws.antt say that the definitions mean this.
 use Prim.Native.Nat.{ℕ, _+_, _≤_, _<_}
 use mathlib.Core.Path.{_≡_}
 use mathlib.Core.Bool.{true, false}

@@ -1,4 +1,4 @@
--- 01, Marked plans: what is printed of plan bytes and of schedule bytes, as lines of words and decimal numbers. A line is a list of pieces.
+-- Sites as values. A link is named by its node's number n and has the index n - 1 in every list of links; a flow's index is its number.
 use Prim.Native.Nat.{ℕ, min}
 use mathlib.Core.Bool.{cond, Bool}
 use mathlib.Core.List.{List}

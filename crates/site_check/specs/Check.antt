@@ -68,6 +68,6 @@ passesOf s = shaped s && (formed s && stands s)
 unfoldable pub callFault : Site → List ℕ → ℕ
 callFault s counters = cond (not (eqb (length counters) 576)) 1 (cond (not (passesOf s)) 14 0)
 
--- The bytes of a site, its plan or its schedule; and, by 02, U1, those of a schedule by itself.
+-- 01, what a writer of a site answers and leaves: 14 of the site, then the bytes of its plan or of its schedule.
 abbrev pub writtenIf : Site → List ℕ → List ℕ → Outcome ℕ × List ℕ
 writtenIf s bytes out = handed (passesOf s) bytes out

@@ -1,14 +1,9 @@
--- Sites as values. A link is named by its node's number n and has the index n - 1 in every list of links; a flow's index is its number.
+-- 01, The site: a tree whose root, the server, is node 0. The list of parents has node n's parent at index n - 1.
 use Prim.Native.Nat.{ℕ, zero, suc, _+_}
 use mathlib.Core.Bool.{Bool, true, false, cond}
 use mathlib.Core.List.{List, [], _∷_}
 use lib.Dec.{eqb, ltb}
 use lib.ListN.{getD}
-
--- What a list of links holds for the link of node n; the root has no link.
-unfoldable pub ofLink : List ℕ → ℕ → ℕ
-ofLink xs zero = 0
-ofLink xs (suc i) = getD xs i 0
 
 -- The parent of a node. The root, and a number beyond the list, are their own.
 unfoldable pub up : List ℕ → ℕ → ℕ
@@ -37,3 +32,8 @@ route parents n = climb n parents n
 unfoldable pub has : ℕ → List ℕ → Bool
 has n [] = false
 has n (m ∷ ms) = cond (eqb m n) true (has n ms)
+
+-- What a list of links holds for the link of node n; the root has no link.
+unfoldable pub ofLink : List ℕ → ℕ → ℕ
+ofLink xs zero = 0
+ofLink xs (suc i) = getD xs i 0

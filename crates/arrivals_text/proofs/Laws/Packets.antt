@@ -16,13 +16,13 @@ use Rattle.arrivals_text.specs.Counts.{flowPart, countPart, isNew, putCo
 
 -- The parts of a word that is written as N=K; 61 is the byte of `=`.
 module _ (n k : ℕ) where
-  written-flow : flowPart (decimal n ++ 61 ∷ decimal k) ≡ decimal n
+  pub written-flow : flowPart (decimal n ++ 61 ∷ decimal k) ≡ decimal n
   unfolding flowPart before firstPart parts
   written-flow =
       let plain : unmarked (is 61) (decimal n) ≡ true = unmarked-decimal (is 61) (λ c a b. ne-eqb c 61 (λ e. absurd (omega arith))) n in
       rw (unmarked-first (is 61) (decimal n) (61 ∷ decimal k) (parts (is 61) (decimal k)) plain refl)
 
-  written-count : countPart (decimal n ++ 61 ∷ decimal k) ≡ decimal k
+  pub written-count : countPart (decimal n ++ 61 ∷ decimal k) ≡ decimal k
   unfolding countPart
   written-count = rw (written-flow, drop-append-add (decimal n) (61 ∷ decimal k) 1)
 

@@ -1,4 +1,4 @@
--- The tests of 14, one law for each answer that a function of src/check.rt gives.
+-- The tests of 14, one law for each answer that a function of src/lib.rt gives.
 use Prim.Native.Nat.{ℕ, _≤_, _<_}
 use mathlib.Core.Path.{_≡_, sym, _∙_, ap}
 use mathlib.Core.Bool.{Bool, true, false, not, _&&_, and-eq-true-iff}

@@ -1,4 +1,4 @@
--- Pieces of text in a borrowed space: how one is stored byte by byte, and what several leave together.
+-- Pieces of text in a borrowed space: what several of them leave together.
 use Prim.Native.Nat.{ℕ, _+_, _≤_}
 use mathlib.Core.Path.{_≡_, refl, sym, _∙_, ap}
 use mathlib.Core.List.{List, [], _∷_, _++_, append-assoc, append-nil}
