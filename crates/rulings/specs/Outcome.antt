@@ -25,6 +25,11 @@ unfoldable pub settled : {A B : Type 0} → Outcome A → B → B → B
 settled (accepted a) new old = new
 settled (refused number place) new old = old
 
+-- A ruling, with what is given where it accepts.
+abbrev pub given : {A : Type 0} → Ruling → A → Outcome A
+given (accepted a) x = accepted x
+given (refused number place) x = refused number place
+
 -- 01, by-value results: an accepted call gives its own, and a refused one gives this other.
 unfoldable pub orElse : {A : Type 0} → A → Outcome A → Ruling × A
 orElse other (accepted a) = (accepted tt, a)

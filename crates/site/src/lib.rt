@@ -1,6 +1,7 @@
 // A site by value, with its flows.
 ghost use mathlib.Core.Path.{_≡_};
-ghost use Rattle.site.specs.Sites.{flowCount, emptySite, used, live, withFlow, withoutFlow};
+ghost use Rattle.site.specs.declared.Site.{Site};
+ghost use Rattle.site.specs.Sites.{flowCount, emptySite, used, live, withStates, withFlow, withoutFlow};
 
 // One value for one plan: node n's entries are at index n - 1, a flow's at its number, and whatever is not in use is 0.
 // A flow's state is 0 for a number not in use and 1 for a live flow.
@@ -75,15 +76,21 @@ pub fn without_flow(site: Site, number: u8) -> Site
     next
 }
 
-// A number above 63 is no flow's.
+// A number beyond the list is no flow's.
+pub fn live_in(states: &[u8], number: u8) -> bool
+    ensures { λ r. ⌜ ((s : Site) → r ≡ live (withStates s (now (states .entry))) number) ⌝ }
+{
+    let n = number as usize;
+    if states.len() <= n {
+        return false;
+    }
+    states[n] == 1
+}
+
 pub fn is_live(site: Site, number: u8) -> bool
     ensures { λ r. ⌜ r ≡ live site number ⌝ }
 {
-    let n = number as usize;
-    if 63 < n {
-        return false;
-    }
-    site.states[n] == 1
+    live_in(&site.states, number)
 }
 
 // How many links a site has, whatever its count says.
@@ -96,17 +103,24 @@ pub fn link_count(links: u8) -> usize
     links as usize
 }
 
-// Told beside the number of links, in print and to hosts.
-pub fn flow_count(site: Site) -> u64
-    ensures { λ r. ⌜ r ≡ flowCount site ⌝ }
+// How many flows are live. A count of 8 bits is as wide as a state, so that the loop takes several states at a time.
+pub fn live_count(states: &[u8; 64]) -> u8
+    ensures { λ r. ⌜ ((s : Site) → r ≡ flowCount (withStates s (now (states .entry)))) ⌝ }
 {
-    let mut count = 0;
+    let mut count: u8 = 0;
     let mut n = 0;
     while n < 64 {
-        if site.states[n] == 1 {
+        if states[n] == 1 {
             count += 1;
         }
         n += 1;
     }
     count
+}
+
+// Told beside the number of links, in print and to hosts.
+pub fn flow_count(site: Site) -> u64
+    ensures { λ r. ⌜ r ≡ flowCount site ⌝ }
+{
+    live_count(&site.states) as u64
 }

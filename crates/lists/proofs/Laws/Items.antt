@@ -1,6 +1,6 @@
 -- Items joined one after the other, whatever they are made of.
 use Prim.Native.Nat.{ℕ, zero, suc, _+_, _-_, _<_, _≤_}
-use mathlib.Core.Path.{_≡_, refl, _∙_, ap}
+use mathlib.Core.Path.{_≡_, refl, sym, _∙_, ap}
 use mathlib.Core.List.{List, [], _++_, append-assoc, append-nil}
 use native.Mathlib.Nat.{zero-add, suc-add}
 use native.Mathlib.Omega.{arith}
@@ -19,6 +19,12 @@ module _ {A : Type 0} (item : ℕ → List A) where
   joined-split (suc a) b i =
       let e : i + suc a ≡ i + 1 + a = omega arith in
       rw (suc-add a b, e, append-assoc) (ap (λ (l : List A). item i ++ l) (joined-split a b (i + 1)))
+
+  -- Those before k, the one at k and those behind it.
+  pub joined-at : (n k : ℕ) → k < n → joined item n 0 ≡ joined item k 0 ++ (item k ++ joined item (n - (k + 1)) (k + 1))
+  joined-at n k l =
+      let all : k + (n - k) ≡ n = omega arith in
+      ap (λ (m : ℕ). joined item m 0) (sym all) ∙ joined-split k (n - k) 0 ∙ ap (λ (r : List A). joined item k 0 ++ r) (rw zero-add (joined-next n k l))
 
   -- One more behind the first k.
   pub joined-more : (k : ℕ) → joined item (k + 1) 0 ≡ joined item k 0 ++ item k

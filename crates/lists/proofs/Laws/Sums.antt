@@ -1,8 +1,8 @@
 -- Sums over the numbers below a bound.
-use Prim.Native.Nat.{ℕ, zero, suc, _+_, _*_, _≤_, _<_}
+use Prim.Native.Nat.{ℕ, zero, suc, _+_, _<_}
 use mathlib.Core.Path.{_≡_, refl}
 use mathlib.Core.Logic.{_⊎_, inl, inr}
-use native.Mathlib.Nat.{suc-mul, eq-or-lt-of-le}
+use native.Mathlib.Nat.{eq-or-lt-of-le}
 use native.Mathlib.Numerals.{add-one}
 use native.Mathlib.Omega.{arith}
 use Rattle.lists.specs.Lists.{sumTo}
@@ -11,11 +11,6 @@ use Rattle.lists.specs.Lists.{sumTo}
 pub sum-more : (f : ℕ → ℕ) (k : ℕ) → sumTo f (k + 1) ≡ sumTo f k + f k
 unfolding sumTo
 sum-more f k = rw add-one
-
-pub sum-le : (f : ℕ → ℕ) (most k : ℕ) → ((i : ℕ) → f i ≤ most) → sumTo f k ≤ k * most
-unfolding sumTo
-sum-le f most zero b = omega arith
-sum-le f most (suc k) b = rw suc-mul (omega (arith, sum-le f most k b, b k))
 
 -- Sums of terms that agree where the sum looks are equal, and where they agree at all numbers but n the sums differ as the terms at n do.
 module _ (f g : ℕ → ℕ) where

@@ -1,12 +1,15 @@
 -- Flows of a site: which are live, how many, and what a change at one number leaves.
-use Prim.Native.Nat.{ℕ, zero, suc, _+_, _≤_, _<_}
+use Prim.Native.Nat.{ℕ, zero, suc, _+_, _-_, _≤_, _<_}
 use mathlib.Core.Path.{_≡_, refl, sym, _∙_}
 use mathlib.Core.Bool.{Bool, true, false, cond}
+use mathlib.Core.Logic.{_⊎_, inl, inr}
 use lib.ListN.{length, getD, List·getD-eq-default}
+use native.Mathlib.Nat.{eq-or-lt-of-le}
 use native.Mathlib.Omega.{arith}
 use Rattle.site.specs.declared.Site.{Site}
 use Rattle.site.specs.Sites.{live, flowCount, withFields, withFlow}
 use Rattle.lists.specs.Lists.{sumTo}
+use Rattle.lists.proofs.Laws.Search.{lt-or-le}
 use borrow.Author.Tests.{ne-eqb}
 use native.Mathlib.Numerals.{add-one}
 use lib.Dec.{eqb}
@@ -51,6 +54,49 @@ counted-idle s n count m c e q = record { few = omega (arith, c .few); is = q �
 pub counted-end : (s : Site) (n count : ℕ) → Counted s n count → n ≡ 64 → count ≡ flowCount s
 unfolding flowCount
 counted-end s n count c e = c .is ∙ rw e
+
+-- The live flows from n on are so many, so that a loop that counts them down ends behind the last of them.
+pub record Left (s : Site) (n left : ℕ) : Type 0 where
+  pub all : sumTo (λ m. cond (live s m) 1 0) n + left ≡ flowCount s
+
+pub left-start : (s : Site) (left : ℕ) → left ≡ flowCount s → Left s 0 left
+unfolding sumTo
+left-start s left e = record { all = omega (arith, e) }
+
+pub left-live : (s : Site) (n left m : ℕ) → Left s n left → getD (s .states) n 0 ≡ 1 → 0 < left → m ≡ left - 1 → Left s (n + 1) m
+unfolding live
+left-live s n left m w e l q = record { all = omega (arith, w .all, sum-next s n 1 (rw e)) }
+
+pub left-idle : (s : Site) (n left m : ℕ) → Left s n left → (getD (s .states) n 0 ≡ 1 → ⊥) → m ≡ left → Left s (n + 1) m
+unfolding live
+left-idle s n left m w e q = record { all = omega (arith, w .all, sum-next s n 0 (rw (ne-eqb _ _ e))) }
+
+ones-rise : (s : Site) (n k : ℕ) → n ≤ k → sumTo (λ m. cond (live s m) 1 0) n ≤ sumTo (λ m. cond (live s m) 1 0) k
+unfolding sumTo
+ones-rise s n zero l = let e : n ≡ 0 = omega arith in rw e (omega arith)
+ones-rise s n (suc k) l = go (eq-or-lt-of-le l) (ones-rise s n k)
+  where
+    go : (n ≡ suc k) ⊎ (n < suc k) → (n ≤ k → sumTo (λ m. cond (live s m) 1 0) n ≤ sumTo (λ m. cond (live s m) 1 0) k)
+        → sumTo (λ m. cond (live s m) 1 0) n ≤ sumTo (λ m. cond (live s m) 1 0) (suc k)
+    go (inl e) lower = rw e (omega arith)
+    go (inr h) lower = omega (arith, lower (omega arith))
+
+-- As long as one is left, its number is to come; where none is left, none to come is live.
+pub left-more : (s : Site) (n left : ℕ) → Left s n left → 0 < left → n < 64
+unfolding flowCount
+left-more s n left w l = go (lt-or-le n 64)
+  where
+    go : (n < 64) ⊎ (64 ≤ n) → n < 64
+    go (inl h) = h
+    go (inr h) = absurd (omega (arith, w .all, ones-rise s 64 n h))
+
+pub none-left : (s : Site) (n left : ℕ) → Left s n left → left ≡ 0 → (k : ℕ) → n ≤ k → k < 64 → live s k ≡ false
+unfolding flowCount
+none-left s n left w z k lo hi = go (live s k) refl
+  where
+    go : (t : Bool) → live s k ≡ t → t ≡ false
+    go true e = absurd (omega (arith, w .all, ones-rise s n k lo, ones-rise s (k + 1) 64 (omega arith), sum-next s k 1 (rw e)))
+    go false e = refl
 
 -- A number that the list of states has not is not live.
 pub dead-beyond : (s : Site) (n : ℕ) → length (s .states) ≤ n → false ≡ live s n

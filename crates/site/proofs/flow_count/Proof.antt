@@ -1,54 +1,16 @@
--- Right because the live flows below n are counted; 64 - n falls.
+-- Right because the site has these states.
 use borrow.Author.Needs.{needs}
-use Prim.Native.Nat.{_-_, _≤_}
-use mathlib.Core.Logic.{inl, inr}
-use native.Mathlib.Omega.{arith}
-use Rattle.site.proofs.Laws.Flows.{Counted, counted-start, counted-live, counted-idle, counted-end}
 use Rattle.site.proofs.flow_count.Statement.{statement}
 use Rattle.site.proofs.flow_count.Tie as tie
 
-abbrev Inv-loop : tie.InvT-loop
-Inv-loop site count₀ n₀ count n = (n ≤ 64) × Counted site n count
+live-count-requires : tie.Need-live-count-requires
+live-count-requires c κs = tt
 
-abbrev μ-loop : tie.MeasureT-loop
-μ-loop site count₀ n₀ count n = 64 - n
+cast-result : tie.Need-cast-result
+cast-result c = search needs
 
-loop-holds : tie.Need-loop-holds Inv-loop μ-loop
-loop-holds c = (omega arith, counted-start _)
-
-element-copy-out-if1 : tie.Need-element-copy-out-if1 Inv-loop μ-loop
-element-copy-out-if1 c = search needs
-
-add-count : tie.Need-add-count Inv-loop μ-loop
-add-count c = omega (arith, c .before .before .before .loop .inv .1 .few)
-
-add-n : tie.Need-add-n Inv-loop μ-loop
-add-n c = search needs
-
-loop-less : tie.Need-loop-less Inv-loop μ-loop
-loop-less c = search needs
-
-loop-again : tie.Need-loop-again Inv-loop μ-loop
-loop-again c =
-    let sofar = c .before .before .before .loop .inv in
-    elim (c .if1 .came) [
-      | inl w ↦ (omega arith, counted-live _ _ _ _ (sofar .1) (w .0 .taken) (w .1))
-      | inr w ↦ (omega arith, counted-idle _ _ _ _ (sofar .1) (w .0 .left) (w .1))
-    ]
-
-returns : tie.Need-returns Inv-loop μ-loop
-returns c = counted-end _ _ _ (c .before .loop .inv .1) (omega (arith, c .before .loop .inv .0))
+returns : tie.Need-returns
+returns c = c .live-count .ensures (c .before .before .before .args .t1)
 
 pub flow-count-spec : {M : Type 1} → statement M
-flow-count-spec =
-    tie.close
-    (tie.spec
-    Inv-loop
-    μ-loop
-    loop-holds
-    element-copy-out-if1
-    add-count
-    add-n
-    loop-less
-    loop-again
-    returns)
+flow-count-spec = tie.close (tie.spec live-count-requires cast-result returns)
