@@ -1,10 +1,10 @@
 // The search for the largest fitting base.
-use crate::periods::period_of;
+use crate::periods::rise_of;
 ghost use mathlib.Core.Path.{_≡_};
-ghost use Prim.Native.Nat.{_≤_, _/_};
+ghost use Prim.Native.Nat.{_^_, _≤_, _/_};
 ghost use lib.ListN.{length};
 ghost use Rattle.lists.specs.Lists.{smallest, largest};
-ghost use Rattle.pinwheel.specs.Rule.{period, sum, limit, base};
+ghost use Rattle.pinwheel.specs.Rule.{exponent, sum, limit, base};
 ghost use Rattle.pinwheel.specs.Inner.{AllowedBase};
 
 // One pass for both: rule 1 bounds the bases by the smallest gap, and the largest has the limit of rule 3 for its period.
@@ -39,28 +39,33 @@ struct Figures {
     limit: u32,
 }
 
-// How often a child with this gap sends in `top` slots. Most children have the largest period or are few, so most need no division.
-fn share(top: u32, gap: u16, base: u16, factor: u16) -> u32
+// What a child with this gap adds to the sum, f^(J-j), where `whole` is f^J: it is divided by the factor each time that the base is multiplied by it. With the
+// factor 2 this is a shift, which costs less than a division by the period.
+fn share(whole: u16, gap: u16, base: u16, factor: u16) -> u16
     requires { ⌜ (2 ≤ factor) × (1 ≤ base) × (base ≤ gap) ⌝ }
-    ensures { λ r. ⌜ r ≡ top / period factor base gap ⌝ }
+    ensures { λ r. ⌜ r ≡ whole / factor ^ exponent factor base gap ⌝ }
 {
-    let p = period_of(gap, base, factor) as u32;
-    if p == top {
-        return 1;
+    let top = gap / factor;
+    let mut p = base;
+    let mut times = whole;
+    while p <= top {
+        p *= factor;
+        times /= factor;
     }
-    top / p
+    times
 }
 
-// The limit is the largest gap's period. Every period divides it, so a child's part of the sum is its share of the limit.
+// Rule 3: J is the largest gap's j, and the limit is that gap's period.
 fn figures_of(gaps: &[u16], most: u16, base: u16, factor: u16) -> Figures
     requires { ⌜ AllowedBase factor base (now gaps) × (most ≡ largest (now gaps)) × (1 ≤ length (now gaps)) × (length (now gaps) ≤ 63) ⌝ }
     ensures { λ r. ⌜ (r .sum ≡ sum factor base (now (gaps .entry))) × (r .limit ≡ limit factor base (now (gaps .entry))) ⌝ }
 {
-    let top = period_of(most, base, factor) as u32;
+    let rise = rise_of(most, base, factor);
+    let top = rise.period as u32;
     let mut total: u32 = 0;
     let mut i = 0;
     while i < gaps.len() {
-        total += share(top, gaps[i], base, factor);
+        total += share(rise.power, gaps[i], base, factor) as u32;
         i += 1;
     }
     Figures {
