@@ -1,18 +1,20 @@
 // What live flows keep on the links of their routes. 02, U2: widths, and the sums of 12, 13, 17 and 18, go by the periods.
-use site::Flow;
 use site::Site;
 use site::link_count;
+use site::live_count;
 use tree::parent_of;
 use tree::value_of;
 ghost use mathlib.Core.Path.{_≡_};
-ghost use Prim.Native.Nat.{ℕ, _≤_};
-ghost use lib.ListN.{length, getD};
+ghost use Prim.Native.Nat.{ℕ, _+_, _≤_};
+ghost use lib.ListN.{length, getD, replicate};
 ghost use Rattle.tree.specs.Tree.{route};
-ghost use Rattle.reservations.specs.Reservations.{loadsOf, periodsJudged, firstOver, firstUnfit, along, firstLate, delayBound};
-ghost use Rattle.reservations.specs.Inner.{carried, Loads};
+ghost use Rattle.site.specs.declared.Site.{Site};
+ghost use Rattle.site.specs.Sites.{ofLists};
+ghost use Rattle.reservations.specs.Reservations.{loadsOf, along, delayBound};
+ghost use Rattle.reservations.specs.Inner.{carried, foundWith, firstFull, ReservedAs, FaultsOf};
 
 // The sum of the values of the links from the node up to the root.
-fn sum_along<'a>(values: &'a [u16], parents: &'a [u8], node: u8) -> u32
+pub fn sum_along<'a>(values: &'a [u16], parents: &'a [u8], node: u8) -> u32
     ensures { λ r. ⌜ r ≡ along (now (values .entry)) (route (now (parents .entry)) node) ⌝ }
 {
     let mut sum: u32 = 0;
@@ -37,6 +39,7 @@ fn add_widths<'a>(
 ) -> u32
     requires { ⌜ (length (now loads) ≡ length (now parents)) × ((i : ℕ) → getD (now loads) i 0 ≤ 4000000000) ⌝ }
     ensures { λ r. ⌜ (r ≡ along (now (periods .entry)) (route (now (parents .entry)) entry))
+        × ((i : ℕ) → getD (now (loads .exit)) i 0 ≤ getD (now (loads .entry)) i 0 + 16711425)
         × (now (loads .exit) ≡ carried (now (periods .entry)) rate (route (now (parents .entry)) entry) (now (loads .entry))) ⌝ }
 {
     let mut sum: u32 = 0;
@@ -54,39 +57,64 @@ fn add_widths<'a>(
     }
 }
 
-// The sums of the widths on all links, and the first late flow, or 64.
-struct Reserved {
-    loads: [u32; 63],
-    late: usize,
-}
-
-// Goes up each live flow's route once, from the last flow down: so the late flow met last is the first.
-fn reserved_of(site: Site) -> Reserved
-    ensures { λ r. ⌜ Loads site (r .loads) × (r .late ≡ firstLate site) ⌝ }
+// The late flow found so far, or 64, with flow n judged by its deadline and the sum of its periods.
+fn first_late(late: usize, n: usize, deadline: u16, sum: u32) -> usize
+    ensures { λ r. ⌜ r ≡ foundWith late n deadline sum ⌝ }
 {
-    let mut loads = [0u32; 63];
-    let mut late = 64;
-    let mut n = 64;
-    while 0 < n {
-        n -= 1;
-        if site.states[n] == 1 {
-            let entry = site.entries[n];
-            let rate = site.rates[n];
-            let sum = add_widths(&site.periods, &site.parents, entry, rate, &mut loads);
-            if (site.deadlines[n] as u32) < sum {
-                late = n;
-            }
-        }
+    if late < 64 {
+        return late;
     }
-    Reserved { loads, late }
+    if (deadline as u32) < sum {
+        return n;
+    }
+    64
 }
 
-// A picture shows what each link carries of its capacity.
+// Adds up the widths on all links and answers the first late flow, or 64. It goes up the route of each live flow once, and ends with the last of them.
+fn reserve<'a>(
+    parents: &'a [u8; 63],
+    periods: &'a [u16; 63],
+    states: &'a [u8; 64],
+    entries: &'a [u8; 64],
+    rates: &'a [u8; 64],
+    deadlines: &'a [u16; 64],
+    loads: &mut [u32],
+) -> usize
+    requires { ⌜ now loads ≡ replicate 63 0 ⌝ }
+    ensures { λ r. ⌜ ((s : Site) → ReservedAs (ofLists (s .links) (now (parents .entry)) (s .capacities) (s .gaps) (s .offsets) (now (periods .entry))
+        (now (states .entry)) (now (entries .entry)) (now (rates .entry)) (now (deadlines .entry))) (now (loads .exit)) r) ⌝ }
+{
+    let mut late = 64;
+    let mut left = live_count(states);
+    let mut n = 0;
+    while 0 < left {
+        if states[n] == 1 {
+            let entry = entries[n];
+            let rate = rates[n];
+            let sum = add_widths(periods, parents, entry, rate, loads);
+            late = first_late(late, n, deadlines[n], sum);
+            left -= 1;
+        }
+        n += 1;
+    }
+    late
+}
+
+// What each link carries: a picture shows it beside the capacity, and an admission is judged by it.
 pub fn loads(site: Site) -> [u32; 63]
     ensures { λ r. ⌜ r ≡ loadsOf site ⌝ }
 {
-    let reserved = reserved_of(site);
-    reserved.loads
+    let mut sums = [0u32; 63];
+    reserve(
+        &site.parents,
+        &site.periods,
+        &site.states,
+        &site.entries,
+        &site.rates,
+        &site.deadlines,
+        &mut sums,
+    );
+    sums
 }
 
 // 01, 12: the index of the first link with widths above its capacity, or the number of links.
@@ -96,49 +124,75 @@ pub struct Faults {
     pub late: usize,
 }
 
-pub fn first_faults(site: Site) -> Faults
-    ensures { λ r. ⌜ (r .over ≡ firstOver site) × (r .late ≡ firstLate site) ⌝ }
+// Both of a site with these lists, and the sums of the widths on its links. These are added up in a local list and handed over whole: of a lent one a
+// compiler cannot tell that it does not overlap the others, and stores and loads each sum anew.
+pub fn first_faults<'a>(
+    links: u8,
+    parents: &'a [u8; 63],
+    capacities: &'a [u16; 63],
+    periods: &'a [u16; 63],
+    states: &'a [u8; 64],
+    entries: &'a [u8; 64],
+    rates: &'a [u8; 64],
+    deadlines: &'a [u16; 64],
+    loads: &mut [u32; 63],
+) -> Faults
+    ensures { λ r. ⌜ ((s : Site) → FaultsOf (ofLists links (now (parents .entry)) (now (capacities .entry)) (s .gaps) (s .offsets) (now (periods .entry))
+        (now (states .entry)) (now (entries .entry)) (now (rates .entry)) (now (deadlines .entry))) (r .over) (r .late) (now (loads .exit))) ⌝ }
 {
-    let links = link_count(site.links);
-    let reserved = reserved_of(site);
+    let count = link_count(links);
+    let mut sums = [0u32; 63];
+    let late = reserve(
+        parents,
+        periods,
+        states,
+        entries,
+        rates,
+        deadlines,
+        &mut sums,
+    );
     let mut i = 0;
-    while i < links {
-        if (site.capacities[i] as u32) < reserved.loads[i] {
+    while i < count {
+        let capacity = value_of(capacities, (i + 1) as u8) as u32;
+        if capacity < sums[i] {
             break;
         }
         i += 1;
     }
-    Faults {
-        over: i,
-        late: reserved.late,
-    }
+    *loads = sums;
+    Faults { over: i, late }
 }
 
-// 01, 17: the first link from the flow's entry node up that has no room for its width besides those of the live flows, or 0.
-pub fn first_unfit(site: Site, flow: Flow) -> u8
-    ensures { λ r. ⌜ r ≡ firstUnfit site (flow .rate) (route (site .parents) (flow .entry)) ⌝ }
+// 01, 17: the first link from the entry node up that has no room for the width of this rate besides what it carries, or 0. Nothing is known of the loads that
+// are lent, so the width is compared with what they leave: a sum might not fit.
+pub fn first_unfit<'a>(
+    parents: &'a [u8; 63],
+    capacities: &'a [u16; 63],
+    periods: &'a [u16; 63],
+    loads: &'a [u32; 63],
+    entry: u8,
+    rate: u8,
+) -> u8
+    ensures { λ r. ⌜ r ≡ firstFull (now (capacities .entry)) (now (loads .entry)) (now (periods .entry)) rate (route (now (parents .entry)) entry) ⌝ }
 {
-    let reserved = reserved_of(site);
-    let mut link = flow.entry;
+    let mut link = entry;
     loop {
-        let parent = parent_of(&site.parents, link);
+        let parent = parent_of(parents, link);
         if link <= parent {
             return 0;
         }
         let i = (link - 1) as usize;
-        let width = flow.rate as u32 * value_of(&site.periods, link) as u32;
-        if (site.capacities[i] as u32) < reserved.loads[i] + width {
+        let width = rate as u32 * value_of(periods, link) as u32;
+        let capacity = value_of(capacities, link) as u32;
+        let load = loads[i];
+        if capacity < load {
+            return link;
+        }
+        if capacity - load < width {
             return link;
         }
         link = parent;
     }
-}
-
-// 01, 18: the periods from the node up to the root, summed.
-pub fn periods_along(site: Site, node: u8) -> u32
-    ensures { λ r. ⌜ r ≡ along (periodsJudged site) (route (site .parents) node) ⌝ }
-{
-    sum_along(&site.periods, &site.parents, node)
 }
 
 // 01: G, the sum of the periods on the flow's route.

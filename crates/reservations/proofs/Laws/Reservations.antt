@@ -1,17 +1,17 @@
 -- What flows keep on the links of their routes: the sums that the code makes on the way up, and how a flow more or less changes them.
 use Prim.Native.Nat.{ℕ, zero, suc, _+_, _-_, _*_, _≤_, _<_}
 use mathlib.Core.Path.{_≡_, refl, sym, _∙_, ap}
-use mathlib.Core.Bool.{Bool, true, false, cond, _&&_}
+use mathlib.Core.Bool.{Bool, true, false, cond}
 use mathlib.Core.List.{List, [], _∷_}
 use mathlib.Core.Logic.{⊎-elim}
 use lib.Dec.{eqb, ltb}
 use lib.ListN.{length, getD, set, replicate, length-set, getD-replicate, List·getD-eq-default}
 use lib.Seq.{getD-set-same, getD-set-other, ext-getD}
-use borrow.Author.Tests.{lt-ltb, le-ltb, eq-eqb, ne-eqb, eqb-true, eqb-false}
+use borrow.Author.Tests.{lt-ltb, le-ltb, ltb-true, ltb-false, eqb-true, eqb-false}
 use native.Mathlib.Nat.{mul-le-mul, zero-add}
 use native.Mathlib.Omega.{arith}
-use Rattle.lists.specs.Search.{first, firstIn}
-use Rattle.lists.proofs.Laws.Search.{lt-or-le, first-hit, first-miss}
+use Rattle.lists.specs.Search.{firstIn}
+use Rattle.lists.proofs.Laws.Search.{lt-or-le, first-hit, first-miss, first-end}
 use Rattle.site.specs.declared.Site.{Site}
 use Rattle.site.specs.declared.Flow.{Flow}
 use Rattle.tree.specs.Tree.{ofLink, up, route, has}
@@ -19,10 +19,10 @@ use Rattle.site.specs.Sites.{live, withFields, withFlow, withoutFlow}
 use Rattle.reservations.specs.Reservations.{periodsJudged, routeOf, widthAt, widthOn, load, loadsOf, over, unfit, firstUnfit, along, late, firstLate}
 use Rattle.reservations.specs.Reservations.{delayBound}
 use Rattle.lists.specs.Lists.{sumTo}
-use Rattle.reservations.specs.Inner.{carried, Loads}
+use Rattle.reservations.specs.Inner.{carried, foundWith, firstFull, ReservedAs}
 use Rattle.tree.proofs.Laws.Tree.{link-in, way-up, route-up, route-end, route-root, route-within, up-within}
 use Rattle.lists.proofs.Laws.Listed.{length-listed, getD-listed}
-use Rattle.lists.proofs.Laws.Sums.{sum-more, sum-le, sum-except}
+use Rattle.lists.proofs.Laws.Sums.{sum-more, sum-except}
 use Rattle.site.proofs.Laws.Flows.{live-here}
 
 -- The sum over a route, link by link: `sum` has the links below node n. A step adds at most one entry and goes to a smaller number,
@@ -82,6 +82,18 @@ module _ (periods : List ℕ) (rate : ℕ) where
           let apart : i ≡ n - 1 → ⊥ = λ e. eqb-false n (i + 1) t (omega arith) in
           ih (rw length-set h) ∙ rw (getD-set-other loads (n - 1) i (getD loads (n - 1) 0 + widthAt periods rate n) 0 apart)
 
+  -- Nor does a load rise by more than a width.
+  pub carried-le : (most : ℕ) → ((m : ℕ) → widthAt periods rate m ≤ most) → (p : List ℕ) (n : ℕ) (loads : List ℕ) (i : ℕ)
+      → getD (carried periods rate (route p n) loads) i 0 ≤ getD loads i 0 + most
+  carried-le most b p n loads i =
+      ⊎-elim (λ l. rw (carried-at p i n loads l) (go (has (i + 1) (route p n))))
+      (λ l. rw (List·getD-eq-default (carried periods rate (route p n) loads) 0 {n = i} (omega (arith, carried-long (route p n) loads))) (omega arith))
+      (lt-or-le i (length loads))
+    where
+      go : (t : Bool) → getD loads i 0 + cond t (widthAt periods rate (i + 1)) 0 ≤ getD loads i 0 + most
+      go true = omega (arith, b (i + 1))
+      go false = omega arith
+
 -- A flow's width is added on the links from node n up; below it nothing is written yet.
 pub record Carrying (periods p : List ℕ) (rate entry : ℕ) (loads₀ loads : List ℕ) (n : ℕ) : Type 0 where
   pub few : n ≤ entry
@@ -125,6 +137,11 @@ unfolding ofLink
 link-le xs most b zero = omega arith
 link-le xs most b (suc i) = b i
 
+-- A rate of 8 bits keeps no more than this of any link, if the periods have 16.
+pub width-at-le : (periods : List ℕ) (rate : ℕ) → rate ≤ 255 → ((i : ℕ) → getD periods i 0 ≤ 65535) → (m : ℕ) → widthAt periods rate m ≤ 16711425
+unfolding widthAt
+width-at-le periods rate r b m = width-le rate (ofLink periods m) r (link-le periods 65535 b m)
+
 -- What a flow keeps of a link.
 module _ (s : Site) (m n : ℕ) where
   pub width-live : live s n ≡ true → widthOn s m n ≡ cond (has m (routeOf s n)) (widthAt (periodsJudged s) (getD (s .rates) n 0) m) 0
@@ -135,132 +152,156 @@ module _ (s : Site) (m n : ℕ) where
   unfolding widthOn
   width-none e = rw e
 
-  width-on-le : ((i : ℕ) → getD (s .rates) i 0 ≤ 255) → ((i : ℕ) → getD (periodsJudged s) i 0 ≤ 65535) → widthOn s m n ≤ 16711425
-  unfolding widthOn widthAt
-  width-on-le r g = go (live s n && has m (routeOf s n))
-    where
-      go : (t : Bool) → cond t (getD (s .rates) n 0 * ofLink (periodsJudged s) m) 0 ≤ 16711425
-      go true = width-le _ _ (r n) (link-le (periodsJudged s) 65535 g m)
-      go false = omega arith
-
--- 64 widths of at most 255 * 65535.
-pub load-le : (s : Site) (m : ℕ) → ((i : ℕ) → getD (s .rates) i 0 ≤ 255) → ((i : ℕ) → getD (periodsJudged s) i 0 ≤ 65535) → load s m ≤ 1069531200
-unfolding load
-load-le s m r g = sum-le (widthOn s m) 16711425 64 (λ k. width-on-le s m k r g)
-
 -- Whether a flow is late, by the sum that the code made for it.
 module _ (s : Site) (n : ℕ) where
-  late-none : (getD (s .states) n 0 ≡ 1 → ⊥) → late s n ≡ false
-  unfolding late live
-  late-none e = rw (ne-eqb _ _ e)
+  late-none : live s n ≡ false → late s n ≡ false
+  unfolding late
+  late-none e = rw e
 
-  late-judged : (sum : ℕ) → getD (s .states) n 0 ≡ 1 → sum ≡ along (periodsJudged s) (routeOf s n) → late s n ≡ ltb (getD (s .deadlines) n 0) sum
-  unfolding late live
-  late-judged sum e q = rw (eq-eqb _ _ e, q)
+  late-judged : (sum : ℕ) → live s n ≡ true → sum ≡ along (periodsJudged s) (routeOf s n) → late s n ≡ ltb (getD (s .deadlines) n 0) sum
+  unfolding late
+  late-judged sum e q = rw (e, q)
 
--- Flows from n on are done: with the widths of those before n the loads are whole, and the first late one is the first from n on.
-pub record Judging (s : Site) (n : ℕ) (loads : List ℕ) (first : ℕ) : Type 0 where
-  pub upto : n ≤ 64
+-- The flows below n are done: the loads are the sums of their widths, and the late flow found is the first of all; 64 where none of them is late.
+pub record Judging (s : Site) (n : ℕ) (loads : List ℕ) (found : ℕ) : Type 0 where
   pub long : length loads ≡ 63
-  pub each : (i : ℕ) → i < 63 → getD loads i 0 + sumTo (widthOn s (i + 1)) n ≡ load s (i + 1)
-  pub found : first ≡ firstIn (late s) 64 n
+  pub each : (i : ℕ) → i < 63 → getD loads i 0 ≡ sumTo (widthOn s (i + 1)) n
+  pub most : found ≤ 64
+  pub none : found ≡ 64 → firstIn (late s) 64 n ≡ firstLate s
+  pub some : found < 64 → found ≡ firstLate s
 
 module _ (s : Site) where
-  pub judging-start : Judging s 64 (replicate 63 0) 64
-  unfolding load first
-  judging-start = record { upto = omega arith; long = refl; each = λ i l. rw (getD-replicate {A = ℕ} 63 i 0 0 l) (zero-add _); found = refl }
+  pub judging-start : Judging s 0 (replicate 63 0) 64
+  unfolding sumTo firstLate
+  judging-start = record {
+    long = refl;
+    each = λ i l. getD-replicate {A = ℕ} 63 i 0 0 l;
+    most = omega arith;
+    none = λ e. refl;
+    some = λ l. absurd (omega arith);
+  }
 
-  module _ (n : ℕ) (loads : List ℕ) (first : ℕ) (w : Judging s n loads first) where
-    -- Loads that are not yet whole leave room for one width more in 32 bits.
-    pub judging-le : ((i : ℕ) → getD (s .rates) i 0 ≤ 255) → ((i : ℕ) → getD (periodsJudged s) i 0 ≤ 65535) → (i : ℕ) → getD loads i 0 ≤ 4000000000
-    judging-le r g i =
-        ⊎-elim (λ l. omega (arith, w .each i l, load-le s (i + 1) r g))
-        (λ l. rw (List·getD-eq-default loads 0 {n = i} (omega (arith, w .long))) (omega arith)) (lt-or-le i 63)
+  module _ (n : ℕ) (loads : List ℕ) (found : ℕ) (few : n < 64) (w : Judging s n loads found) where
+    pub judging-idle : live s n ≡ false → Judging s (n + 1) loads found
+    judging-idle d = record {
+      long = w .long;
+      each = λ i l. w .each i l ∙ omega (arith, sum-more (widthOn s (i + 1)) n, width-none s (i + 1) n d);
+      most = w .most;
+      none = λ e. sym (first-miss (late s) 64 n few (late-none s n d)) ∙ w .none e;
+      some = w .some;
+    }
 
-    pub judging-end : n ≡ 0 → Loads s loads × (first ≡ firstLate s)
-    unfolding sumTo firstLate
-    judging-end z = (record { long = w .long; each = λ i l. omega (arith, rw z at (w .each i l)) }, rw z at (w .found))
+    -- A live flow: its widths and the sum of its periods come from one way up.
+    module _ (l : live s n ≡ true) (sum : ℕ) (next : List ℕ)
+        (up : (sum ≡ along (periodsJudged s) (route (s .parents) (getD (s .entries) n 0)))
+        × (next ≡ carried (periodsJudged s) (getD (s .rates) n 0) (route (s .parents) (getD (s .entries) n 0)) loads)) where
+      judged : late s n ≡ ltb (getD (s .deadlines) n 0) sum
+      unfolding routeOf
+      judged = late-judged s n sum l (up .0)
 
-    -- The flow before them.
-    module _ (k : ℕ) (e : n ≡ k + 1) where
-      missed : late s k ≡ false → first ≡ firstIn (late s) 64 k
-      missed t = w .found ∙ rw e (sym (first-miss (late s) 64 k (omega (arith, w .upto)) t))
+      more : (i : ℕ) → i < 63 → getD next i 0 ≡ sumTo (widthOn s (i + 1)) (n + 1)
+      unfolding routeOf
+      more i h = omega (
+        arith,
+        w .each i h,
+        sum-more (widthOn s (i + 1)) n,
+        width-live s (i + 1) n l,
+        ap (λ (xs : List ℕ). getD xs i 0) (up .1)
+            ∙ carried-at (periodsJudged s) (getD (s .rates) n 0) (s .parents) i (getD (s .entries) n 0) loads (omega (arith, w .long)),
+      )
 
-      pub judging-none : (getD (s .states) k 0 ≡ 1 → ⊥) → Judging s k loads first
-      unfolding live
-      judging-none d = record {
-        upto = omega (arith, w .upto);
-        long = w .long;
-        each = λ i h. omega (arith, rw (e, sum-more (widthOn s (i + 1)) k, width-none s (i + 1) k (ne-eqb _ _ d)) at (w .each i h));
-        found = missed (late-none s k d);
+      pub judging-live : Judging s (n + 1) next (foundWith found n (getD (s .deadlines) n 0) sum)
+      unfolding foundWith
+      judging-live = record {
+        long = rw (up .1) (carried-long (periodsJudged s) (getD (s .rates) n 0) (route (s .parents) (getD (s .entries) n 0)) loads ∙ w .long);
+        each = more;
+        most = go-most (ltb found 64) refl (ltb (getD (s .deadlines) n 0) sum);
+        none = go-none (ltb found 64) refl (ltb (getD (s .deadlines) n 0) sum) judged;
+        some = go-some (ltb found 64) refl (ltb (getD (s .deadlines) n 0) sum) judged;
       }
+        where
+          unfound : ltb found 64 ≡ false → found ≡ 64
+          unfound e = omega (arith, ltb-false found 64 e, w .most)
 
-      -- It is live: its widths and the sum of its periods come from one way up.
-      module _ (l : getD (s .states) k 0 ≡ 1) (sum : ℕ) (next : List ℕ)
-          (up : (sum ≡ along (periodsJudged s) (route (s .parents) (getD (s .entries) k 0)))
-          × (next ≡ carried (periodsJudged s) (getD (s .rates) k 0) (route (s .parents) (getD (s .entries) k 0)) loads)) where
-        judged : late s k ≡ ltb (getD (s .deadlines) k 0) sum
-        unfolding routeOf
-        judged = late-judged s k sum l (up .0)
+          go-most : (a : Bool) → ltb found 64 ≡ a → (b : Bool) → cond a found (cond b n 64) ≤ 64
+          go-most true e b = omega (arith, w .most)
+          go-most false e true = omega arith
+          go-most false e false = omega arith
 
-        more : (first′ : ℕ) → first′ ≡ firstIn (late s) 64 k → Judging s k next first′
-        unfolding live routeOf
-        more first′ f = record {
-          upto = omega (arith, w .upto);
-          long = rw (up .1) (carried-long (periodsJudged s) (getD (s .rates) k 0) (route (s .parents) (getD (s .entries) k 0)) loads ∙ w .long);
-          each = λ i h. omega (
-            arith,
-            rw (e, sum-more (widthOn s (i + 1)) k, width-live s (i + 1) k (eq-eqb _ _ l)) at (w .each i h),
-            ap (λ (xs : List ℕ). getD xs i 0) (up .1)
-                ∙ carried-at (periodsJudged s) (getD (s .rates) k 0) (s .parents) i (getD (s .entries) k 0) loads (omega (arith, w .long)),
-          );
-          found = f;
-        }
+          go-none : (a : Bool) → ltb found 64 ≡ a → (b : Bool) → late s n ≡ b → cond a found (cond b n 64) ≡ 64 → firstIn (late s) 64 (n + 1) ≡ firstLate s
+          go-none true e b j z = absurd (omega (arith, ltb-true found 64 e))
+          go-none false e true j z = absurd (omega arith)
+          go-none false e false j z = sym (first-miss (late s) 64 n few j) ∙ w .none (unfound e)
 
-        pub judging-late : getD (s .deadlines) k 0 < sum → Judging s k next k
-        judging-late o = more k (sym (first-hit (late s) 64 k (omega (arith, w .upto)) (judged ∙ lt-ltb _ _ o)))
+          go-some : (a : Bool) → ltb found 64 ≡ a → (b : Bool) → late s n ≡ b → cond a found (cond b n 64) < 64 → cond a found (cond b n 64) ≡ firstLate s
+          go-some true e b j z = w .some z
+          go-some false e true j z = sym (first-hit (late s) 64 n few j) ∙ w .none (unfound e)
+          go-some false e false j z = absurd (omega arith)
 
-        pub judging-kept : sum ≤ getD (s .deadlines) k 0 → Judging s k next first
-        judging-kept o = more first (missed (judged ∙ le-ltb _ _ o))
+  -- With all flows done the loads are those of the site.
+  judging-whole : (loads : List ℕ) (found : ℕ) → Judging s 64 loads found → ReservedAs s loads found
+  unfolding load loadsOf
+  judging-whole loads found w = record {
+    sums = ext-getD 0 loads _ (w .long ∙ sym (length-listed (λ i. load s (i + 1)) 63 0))
+        (λ k l. w .each k (omega (arith, w .long)) ∙ sym (getD-listed (λ i. load s (i + 1)) 63 0 k (omega (arith, w .long)) ∙ rw zero-add));
+    flow = ⊎-elim (w .some) (λ l. let e : found ≡ 64 = omega (arith, w .most) in e ∙ sym (first-end (late s) 64 64 (omega arith)) ∙ w .none e) (lt-or-le found 64);
+  }
 
--- Loads entry by entry are the list of them.
-pub loads-are : (s : Site) (loads : List ℕ) → Loads s loads → loads ≡ loadsOf s
+  -- No flow from n on is live: then what is found below n is all that there is.
+  pub judging-end : (r n : ℕ) (loads : List ℕ) (found : ℕ) → n + r ≡ 64 → ((k : ℕ) → n ≤ k → k < 64 → live s k ≡ false) → Judging s n loads found
+      → ReservedAs s loads found
+  judging-end zero n loads found e none w = let z : n ≡ 64 = omega arith in judging-whole loads found (rw z at w)
+  judging-end (suc r) n loads found e none w =
+      judging-end r (n + 1) loads found (omega arith) (λ k a b. none k (omega arith) b)
+      (judging-idle n loads found (omega arith) w (none n (omega arith) (omega arith)))
+
+-- The load of a link in the list of all.
+pub load-in : (s : Site) (loads : List ℕ) → loads ≡ loadsOf s → (i : ℕ) → i < 63 → getD loads i 0 ≡ load s (i + 1)
 unfolding loadsOf
-loads-are s loads w =
-    ext-getD 0 loads _ (w .long ∙ sym (length-listed (λ i. load s (i + 1)) 63 0))
-    (λ k l. w .each k (omega (arith, w .long)) ∙ sym (getD-listed (λ i. load s (i + 1)) 63 0 k (omega (arith, w .long)) ∙ rw zero-add))
+load-in s loads e i l = rw e (getD-listed (λ k. load s (k + 1)) 63 0 i l ∙ rw zero-add)
 
 -- Whether a link is over its capacity, by its load in a list of loads.
-module _ (s : Site) (i x : ℕ) (e : x ≡ load s (i + 1)) where
-  pub over-yes : getD (s .capacities) i 0 < x → over s i ≡ true
+module _ (s : Site) (i capacity x : ℕ) (a : capacity ≡ ofLink (s .capacities) (i + 1)) (e : x ≡ load s (i + 1)) where
+  over-test : over s i ≡ ltb capacity x
   unfolding over
-  over-yes l = rw (← e) (lt-ltb _ _ l)
+  over-test = let k : i + 1 - 1 ≡ i = omega arith in rw (a, e, ← link-in (s .capacities) (i + 1) (omega arith), k)
 
-  pub over-no : x ≤ getD (s .capacities) i 0 → over s i ≡ false
-  unfolding over
-  over-no l = rw (← e) (le-ltb _ _ l)
+  pub over-yes : capacity < x → over s i ≡ true
+  over-yes l = over-test ∙ lt-ltb _ _ l
 
--- The way up of a flow with this rate: node n has the parent u.
-module _ (s : Site) (rate n u : ℕ) (e : u ≡ up (s .parents) n) where
-  pub unfit-end : n ≤ u → 0 ≡ firstUnfit s rate (route (s .parents) n)
-  unfolding firstUnfit
-  unfit-end l = rw (route-end (s .parents) n (rw e at l))
+  pub over-no : x ≤ capacity → over s i ≡ false
+  over-no l = over-test ∙ le-ltb _ _ l
 
-  -- The load of its link as it stands in a list of loads, and the link's period.
-  module _ (h : u < n) (x g : ℕ) (is : x ≡ load s (n - 1 + 1)) (q : g ≡ ofLink (periodsJudged s) n) where
-    unfit-test : unfit s rate n ≡ ltb (getD (s .capacities) (n - 1) 0) (x + rate * g)
-    unfolding unfit widthAt
-    unfit-test = let one : n - 1 + 1 ≡ n = omega arith in rw (← link-in (s .capacities) n (omega arith), q, is, one)
+-- The way up of a flow with this rate, by a list of what the links carry: node n has the parent u.
+module _ (capacities loads periods p : List ℕ) (rate n u : ℕ) (e : u ≡ up p n) where
+  pub full-end : n ≤ u → 0 ≡ firstFull capacities loads periods rate (route p n)
+  unfolding firstFull
+  full-end l = rw (route-end p n (rw e at l))
 
-    unfit-step : firstUnfit s rate (route (s .parents) n) ≡ cond (unfit s rate n) n (firstUnfit s rate (route (s .parents) u))
-    unfolding firstUnfit
-    unfit-step = rw (route-up (s .parents) n (rw e at h), e)
+  -- The capacity, the load and the period of its link.
+  module _ (h : u < n) (capacity load g : ℕ) (a : capacity ≡ ofLink capacities n) (b : load ≡ getD loads (n - 1) 0) (q : g ≡ ofLink periods n) where
+    full-step : firstFull capacities loads periods rate (route p n)
+        ≡ cond (ltb capacity (load + rate * g)) n (firstFull capacities loads periods rate (route p u))
+    unfolding firstFull widthAt
+    full-step = rw (route-up p n (rw e at h), a, b, q, link-in loads n (omega arith), e)
 
-    pub unfit-here : getD (s .capacities) (n - 1) 0 < x + rate * g → n ≡ firstUnfit s rate (route (s .parents) n)
-    unfit-here l = rw (unfit-step, unfit-test, lt-ltb _ _ l)
+    pub full-here : capacity < load + rate * g → n ≡ firstFull capacities loads periods rate (route p n)
+    full-here l = rw (full-step, lt-ltb _ _ l)
 
-    pub unfit-next : x + rate * g ≤ getD (s .capacities) (n - 1) 0 → firstUnfit s rate (route (s .parents) u) ≡ firstUnfit s rate (route (s .parents) n)
-    unfit-next l = rw (unfit-step, unfit-test, le-ltb _ _ l)
+    pub full-next : load + rate * g ≤ capacity → firstFull capacities loads periods rate (route p u) ≡ firstFull capacities loads periods rate (route p n)
+    full-next l = rw (full-step, le-ltb _ _ l)
+
+-- With the loads of a site these are its own links without room.
+module _ (s : Site) (rate : ℕ) (long : length (s .parents) ≡ 63) where
+  pub full-unfit : (n : ℕ) → firstFull (s .capacities) (loadsOf s) (periodsJudged s) rate (route (s .parents) n) ≡ firstUnfit s rate (route (s .parents) n)
+  unfolding firstFull firstUnfit unfit
+  full-unfit =
+      way-up (s .parents) (λ n. firstFull (s .capacities) (loadsOf s) (periodsJudged s) rate (route (s .parents) n) ≡ firstUnfit s rate (route (s .parents) n))
+      (λ n l. rw (route-end (s .parents) n l))
+      (λ n l ih. rw (route-up (s .parents) n l, carries n (omega arith) (omega (arith, long, up-within (s .parents) n l)), ih))
+    where
+      carries : (n : ℕ) → 1 ≤ n → n ≤ 63 → ofLink (loadsOf s) n ≡ load s n
+      carries n a b = let one : n - 1 + 1 ≡ n = omega arith in sym (link-in (loadsOf s) n a) ∙ load-in s (loadsOf s) refl (n - 1) (omega arith) ∙ rw one
 
 -- A flow number beyond the list enters at the root, whose route is empty.
 pub delay-none : (s : Site) (n : ℕ) → length (s .entries) ≤ n → 0 ≡ delayBound s n

@@ -3,7 +3,8 @@
 use borrow.Author.Needs.{needs}
 use Prim.Native.Nat.{_*_, _≤_}
 use native.Mathlib.Omega.{arith}
-use Rattle.reservations.proofs.Laws.Reservations.{Carrying, carrying-start, carrying-more, carrying-end, carrying-within, carrying-le, width-le}
+use Rattle.reservations.proofs.Laws.Reservations.{Carrying, carrying-start, carrying-more, carrying-end, carrying-within, carrying-le}
+use Rattle.reservations.proofs.Laws.Reservations.{carried-le, width-le, width-at-le}
 use Rattle.reservations.proofs.Laws.Reservations.{Summing, summing-start, summing-more, summing-end}
 use Rattle.reservations.proofs.add_widths.Statement.{statement}
 use Rattle.reservations.proofs.add_widths.Tie as tie
@@ -32,6 +33,8 @@ returns : tie.Need-returns Inv-loop μ-loop
 returns c =
     let walked = c .before .before .loop .inv in (
       summing-end _ _ _ _ _ _ (walked .1) (c .before .parent-of .ensures) (c .if1 .taken),
+      λ i. rw (carrying-end _ _ _ _ _ _ _ _ (walked .0) (c .before .parent-of .ensures) (c .if1 .taken))
+          (carried-le _ _ 16711425 (width-at-le _ _ (omega arith) (λ k. omega (arith, c .before .before .before .before .before .shared-slice-known .given k))) _ _ _ i),
       carrying-end _ _ _ _ _ _ _ _ (walked .0) (c .before .parent-of .ensures) (c .if1 .taken),
     )
 

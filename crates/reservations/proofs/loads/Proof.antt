@@ -1,14 +1,16 @@
--- Right because the sums are handed on as they were made, and lists with equal entries are equal.
+-- Right because the sums are those of every site with these lists, so of this one.
 use borrow.Author.Needs.{needs}
-use Rattle.reservations.proofs.Laws.Reservations.{loads-are}
 use Rattle.reservations.proofs.loads.Statement.{statement}
 use Rattle.reservations.proofs.loads.Tie as tie
 
-reserved-of-requires : tie.Need-reserved-of-requires
-reserved-of-requires c κs = search needs
+slice-aggregate-reserve : tie.Need-slice-aggregate-reserve
+slice-aggregate-reserve c = search needs
+
+reserve-requires : tie.Need-reserve-requires
+reserve-requires c κs = search needs
 
 returns : tie.Need-returns
-returns c = loads-are _ _ (c .before .reserved-of .ensures .0)
+returns c = c .before .reserve .ensures (c .before .before .before .before .before .before .before .before .before .before .args .t1) .sums
 
 pub loads-spec : {M : Type 1} → statement M
-loads-spec = tie.close (tie.spec reserved-of-requires returns)
+loads-spec = tie.close (tie.spec slice-aggregate-reserve reserve-requires returns)
