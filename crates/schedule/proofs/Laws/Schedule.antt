@@ -295,9 +295,8 @@ pub record Entered (s : Site) (lists : ℕ → List ℕ) (p : ℕ) (list : List 
   pub none : (i : ℕ) → (i < used (s .links) → getD (s .parents) i 0 < p → ⊥) → getD list i 0 ≡ 0
 
 module _ (s : Site) (lists : ℕ → List ℕ) where
-  entered-start : (list : List ℕ) → list ≡ replicate 63 0 → Entered s lists 0 list
-  entered-start list z =
-      record { long = rw z; some = λ i l m. absurd (omega arith); none = λ i n. rw z (getD-replicated 63 i 0) }
+  entered-start : Entered s lists 0 (replicate 63 0)
+  entered-start = record { long = refl; some = λ i l m. absurd (omega arith); none = λ i n. getD-replicated 63 i 0 }
 
   module _ (p : ℕ) (list : List ℕ) (e : Entered s lists p list) where
     entered-skip : length (gapsUnder s p) ≡ 0 → Entered s lists (p + 1) list
@@ -350,16 +349,15 @@ pub record Assigning (s : Site) (n : ℕ) (first next : List ℕ) (p : ℕ) (os 
   pub periods : Entered s (λ q. assignedUnder s q .2) p ps
 
 module _ (s : Site) (n : ℕ) (first next : List ℕ) where
-  pub assigning-start : n ≡ used (s .links) → Chained (s .parents) n 0 first next → (os ps : List ℕ) → os ≡ replicate 63 0 → ps ≡ replicate 63 0
-      → Assigning s n first next 0 os ps
-  assigning-start u c os ps o q = record {
+  pub assigning-start : n ≡ used (s .links) → Chained (s .parents) n 0 first next → Assigning s n first next 0 (replicate 63 0) (replicate 63 0)
+  assigning-start u c = record {
     all = u;
     links = omega (arith, used-most (s .links));
     chained = c;
     most = omega arith;
     passed = λ q l. absurd (omega arith);
-    offsets = entered-start _ _ os o;
-    periods = entered-start _ _ ps q;
+    offsets = entered-start _ _;
+    periods = entered-start _ _;
   }
 
   module _ (p : ℕ) (os ps : List ℕ) (d : Assigning s n first next p os ps) where
