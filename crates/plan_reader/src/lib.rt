@@ -1,16 +1,16 @@
 // Reading a plan: one command after the other, then the judgement of the whole.
 use judgement::Judged;
 use limits::Node;
+use rulings::Verdict;
 use site::Flow;
-use site::Site;
 ghost use mathlib.Core.Path.{_≡_};
 ghost use Prim.Native.Nat.{_+_, _<_};
 ghost use lib.ListN.{length};
-ghost use Rattle.rulings.specs.Outcome.{ruling};
+ghost use Rattle.rulings.specs.Outcome.{ruling, settled};
+ghost use Rattle.reservations.specs.Reservations.{loadsOf};
 ghost use Rattle.judgement.specs.Judge.{withSite};
-ghost use Rattle.format.specs.Reading.{ended};
-ghost use Rattle.plan_reader.specs.Read.{Draft, nodeAt, flowAt, nodeFault, fault, judgeForm, readOf};
-ghost use Rattle.plan_reader.specs.Inner.{Known};
+ghost use Rattle.plan_reader.specs.Read.{Draft, nodeAt, flowAt, nodeFault, fault, readOf};
+ghost use Rattle.plan_reader.specs.Inner.{Known, moreBehind};
 
 // 4 and 7 for a NODE, then 5, 6 and 8.
 fn node_fault(links: u8, next: u8, parents: &[u8; 63], node: Node) -> u8
@@ -70,27 +70,57 @@ fn fault_at<'a>(bytes: &'a [u8], at: usize, links: u8, next: u8, parents: &'a [u
     limits::flow_limits(links, next, flow_at(bytes, at))
 }
 
-// END at index `at`: 10, then the judgement of the whole.
-fn end(size: usize, at: usize, site: Site) -> Judged
+// 10 for an END at index `at`.
+fn more_behind(size: usize, at: usize) -> bool
     requires { ⌜ at < size ⌝ }
-    ensures { λ r. ⌜ (ruling (r .verdict), r .site) ≡ withSite (judgeForm (ended size at site)) ⌝ }
+    ensures { λ r. ⌜ r ≡ moreBehind size at ⌝ }
 {
-    if at + 1 < size {
-        return judgement::refusal(10, at + 1);
+    let next = at + 1;
+    if next < size {
+        return true;
     }
-    judgement::judge(site)
+    false
 }
 
-// The site that the bytes stand for, or a refusal with the empty site. `next` is the smallest number that a FLOW may still have, 0 before the first.
-pub fn read_plan(bytes: &[u8]) -> Judged
-    ensures { λ r. ⌜ (ruling (r .verdict), r .site) ≡ withSite (readOf (now (bytes .entry))) ⌝ }
+// The reading, which fills in the loads of the site's links besides; where it refuses, these stay. `next` is the smallest number that a FLOW may still have,
+// 0 before the first. The judgement is lent the lists of the site that was read, so that the site is not copied for it.
+pub fn read_with(bytes: &[u8], loads: &mut [u32; 63]) -> Judged
+    ensures { λ r. ⌜ ((ruling (r .verdict), r .site) ≡ withSite (readOf (now (bytes .entry))))
+        × (now (loads .exit) ≡ settled (ruling (r .verdict)) (loadsOf (r .site)) (now (loads .entry))) ⌝ }
 {
     let mut site = site::empty();
     let mut next: u8 = 0;
     let mut at = 0;
     while at < bytes.len() {
         if bytes[at] == 255 {
-            return end(bytes.len(), at, site);
+            if more_behind(bytes.len(), at) {
+                return judgement::refusal(10, at + 1);
+            }
+            let mut offsets = [0u16; 63];
+            let mut periods = [0u16; 63];
+            let verdict = judgement::settle(
+                site.links,
+                &site.parents,
+                &site.capacities,
+                &site.gaps,
+                &site.states,
+                &site.entries,
+                &site.rates,
+                &site.deadlines,
+                &mut offsets,
+                &mut periods,
+                loads,
+            );
+            match verdict {
+                Verdict::Accepted => {
+                    site.offsets = offsets;
+                    site.periods = periods;
+                    return Judged { verdict, site };
+                }
+                Verdict::Refused(number, place) => {
+                    return judgement::refusal(number, place);
+                }
+            }
         }
         let fault = fault_at(bytes, at, site.links, next, &site.parents);
         if fault != 0 {
@@ -103,6 +133,7 @@ pub fn read_plan(bytes: &[u8]) -> Judged
             site.capacities[i] = node.capacity;
             site.gaps[i] = node.gap;
             site.links += 1;
+            at += format::size(1);
         } else {
             let flow = flow_at(bytes, at);
             let n = flow.number as usize;
@@ -111,8 +142,16 @@ pub fn read_plan(bytes: &[u8]) -> Judged
             site.rates[n] = flow.rate;
             site.deadlines[n] = flow.deadline;
             next = flow.number + 1;
+            at += format::size(2);
         }
-        at += format::size(bytes[at]);
     }
     judgement::refusal(2, bytes.len())
+}
+
+// The site that the bytes stand for, or a refusal with the empty site.
+pub fn read_plan(bytes: &[u8]) -> Judged
+    ensures { λ r. ⌜ (ruling (r .verdict), r .site) ≡ withSite (readOf (now (bytes .entry))) ⌝ }
+{
+    let mut loads = [0u32; 63];
+    read_with(bytes, &mut loads)
 }

@@ -1,14 +1,19 @@
 -- One law for each way that a check of a command or of END ends.
 use Prim.Native.Nat.{ℕ, _+_, _*_, _≤_, _<_}
 use mathlib.Core.Path.{_≡_, sym, _∙_, ap}
+use mathlib.Core.Bool.{Bool, true, false}
 use mathlib.Core.List.{List}
 use lib.Dec.{ltb, leb}
 use lib.ListN.{length, getD}
-use borrow.Author.Tests.{lt-ltb, le-ltb, le-leb, lt-leb, eq-eqb, ne-eqb, ltb-false, leb-false}
+use borrow.Author.Tests.{lt-ltb, le-ltb, le-leb, lt-leb, eq-eqb, ne-eqb, ltb-true, ltb-false, leb-false}
 use native.Mathlib.Omega.{arith}
 use Rattle.site.specs.declared.Site.{Site}
 use Rattle.site.specs.declared.Flow.{Flow}
-use Rattle.rulings.specs.Outcome.{Outcome, Ruling, refused}
+use Rattle.rulings.specs.Outcome.{Outcome, Ruling, refused, settled, orElse, ruling}
+use Rattle.rulings.specs.declared.Verdict.{Verdict}
+use Rattle.rulings.specs.declared.Verdict.the-variants.{Refused}
+use Rattle.judgement.specs.declared.Judged.{Judged}
+use Rattle.reservations.specs.Reservations.{loadsOf}
 use Rattle.judgement.specs.Judge.{withSite, judgeOf}
 use Rattle.format.specs.Commands.{sizeOf}
 use Rattle.format.proofs.Laws.{number-one, number-two}
@@ -16,6 +21,7 @@ use Rattle.format.specs.Reading.{ended}
 use Rattle.format.proofs.Laws.Reading.{fault-later, ended-more, ended-last}
 use Rattle.limits.specs.declared.Node.{Node}
 use Rattle.plan_reader.specs.Read.{Draft, nodeAt, flowAt, nodeFault, flowFault, laterFault, plans, fault, judgeForm}
+use Rattle.plan_reader.specs.Inner.{moreBehind}
 use Rattle.limits.proofs.Laws.Forms.{node-good, flow-good}
 use Rattle.rulings.proofs.Laws.Choices.{passed}
 use Rattle.limits.specs.Words.{NodeGood}
@@ -84,12 +90,32 @@ module _ (bytes : List ℕ) (at : ℕ) (d : Draft) (m : ℕ) (is : m ≡ sizeOf 
 abbrev pub judged : Outcome Site → Ruling × Site
 judged o = withSite (judgeForm o)
 
--- END at index `at`.
-module _ (size at : ℕ) (s : Site) where
-  pub end-more : at + 1 < size → withSite (refused 10 (at + 1)) ≡ withSite (judgeForm (ended size at s))
-  unfolding judgeForm
-  end-more l = ap judged (sym (ended-more size at s l))
+-- Whether bytes stand behind an END at index `at`.
+module _ (size at : ℕ) where
+  pub behind-yes : at + 1 < size → true ≡ moreBehind size at
+  unfolding moreBehind
+  behind-yes l = sym (lt-ltb _ _ l)
 
-  pub end-last : size ≤ at + 1 → withSite (judgeOf s) ≡ withSite (judgeForm (ended size at s))
-  unfolding judgeForm
-  end-last l = ap judged (sym (ended-last size at s l))
+  pub behind-no : size ≤ at + 1 → false ≡ moreBehind size at
+  unfolding moreBehind
+  behind-no l = sym (le-ltb _ _ l)
+
+-- END at index `at`, by what was told of it.
+module _ (size at : ℕ) (s : Site) (t : Bool) (is : t ≡ moreBehind size at) where
+  pub end-more : t ≡ true → withSite (refused 10 (at + 1)) ≡ withSite (judgeForm (ended size at s))
+  unfolding judgeForm moreBehind
+  end-more e = ap judged (sym (ended-more size at s (ltb-true _ _ (sym is ∙ e))))
+
+  pub end-last : t ≡ false → withSite (judgeOf s) ≡ withSite (judgeForm (ended size at s))
+  unfolding judgeForm moreBehind
+  end-last e = ap judged (sym (ended-last size at s (ltb-false _ _ (sym is ∙ e))))
+
+-- A refused reading leaves a list for the loads as it was, and so does a refused judgement.
+pub refused-keeps : (j : Judged) (number place : ℕ) → _≡_ {A = Ruling × Site} (ruling (j .verdict), j .site) (withSite (refused number place))
+    → (old : List ℕ) → old ≡ settled (ruling (j .verdict)) (loadsOf (j .site)) old
+unfolding withSite orElse settled
+refused-keeps j number place e old = rw (ap (λ (x : Ruling × Site). x .0) e)
+
+pub refused-settles : (v : Verdict) (number place : ℕ) → v ≡ Refused number place → (new old : List ℕ) → settled (ruling v) new old ≡ old
+unfolding settled
+refused-settles v number place e new old = rw e

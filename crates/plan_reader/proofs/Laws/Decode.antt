@@ -61,10 +61,11 @@ module _ (bytes : List ℕ) where
   decode-start = refl
 
   module _ (at : ℕ) (d : Draft) (h : at < length bytes) (t : getD bytes at 0 ≡ 255 → ⊥) (e : fault bytes at d ≡ 0) where
-    pub decode-node : getD bytes at 0 ≡ 1 → (n : Node) → n ≡ nodeAt bytes at → readOn plans bytes at d ≡ decode bytes
-        → readOn plans bytes (at + sizeOf (getD bytes at 0)) (nodeAdded d n) ≡ decode bytes
-    decode-node one n q i = rw (q, ← node-none bytes at d e one .2) (sym (read-go plans bytes at d h t e) ∙ i)
+    pub decode-node : getD bytes at 0 ≡ 1 → (n : Node) → n ≡ nodeAt bytes at → (size : ℕ) → size ≡ sizeOf 1 → readOn plans bytes at d ≡ decode bytes
+        → readOn plans bytes (at + size) (nodeAdded d n) ≡ decode bytes
+    decode-node one n q size z i = rw (z, ← one, q, ← node-none bytes at d e one .2) (sym (read-go plans bytes at d h t e) ∙ i)
 
-    pub decode-flow : (getD bytes at 0 ≡ 1 → ⊥) → (f : Flow) → f ≡ flowAt bytes at → readOn plans bytes at d ≡ decode bytes
-        → readOn plans bytes (at + sizeOf (getD bytes at 0)) (flowAdded d f) ≡ decode bytes
-    decode-flow other f q i = rw (q, ← flow-none bytes at d e other .2) (sym (read-go plans bytes at d h t e) ∙ i)
+    pub decode-flow : (getD bytes at 0 ≡ 1 → ⊥) → (f : Flow) → f ≡ flowAt bytes at → (size : ℕ) → size ≡ sizeOf 2 → readOn plans bytes at d ≡ decode bytes
+        → readOn plans bytes (at + size) (flowAdded d f) ≡ decode bytes
+    decode-flow other f q size z i =
+        let w = flow-none bytes at d e other in rw (z, ← w .0, q, ← w .2) (sym (read-go plans bytes at d h t e) ∙ i)
