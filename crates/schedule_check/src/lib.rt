@@ -1,7 +1,8 @@
 // Schedules by value, and check 14 of one that is handed in.
 ghost use mathlib.Core.Path.{_≡_};
 ghost use Prim.Native.Nat.{_-_, _≤_};
-ghost use Rattle.schedule_check.specs.Schedules.{withoutLinks, badSlots};
+ghost use lib.ListN.{length};
+ghost use Rattle.schedule_check.specs.Schedules.{ofLists, withoutLinks, badSlots};
 ghost use Rattle.schedule_check.specs.Check.{inUse, badAt, usedAt, schedulePasses};
 ghost use Rattle.lists.specs.Search.{any};
 
@@ -22,32 +23,39 @@ pub fn without_links() -> Schedule
     }
 }
 
+// A period of 0 has no offset below it, so two tests do.
 pub fn bad_slots(offset: u16, period: u16) -> bool
     ensures { λ r. ⌜ r ≡ badSlots offset period ⌝ }
 {
-    if period < 1 {
-        return true;
-    }
     if 1024 < period {
         return true;
     }
     period <= offset
 }
 
-// Whether some link's slots are not within their limits.
-fn slots_bad<'a>(links: u8, offsets: &'a [u16; 63], periods: &'a [u16; 63]) -> bool
-    requires { ⌜ links ≤ 63 ⌝ }
+// Whether some link's slots are not within their limits. No entry ends the loop, nor that of `rest_used`, so that they take several at a time.
+fn slots_bad<'a>(links: u8, offsets: &'a [u16], periods: &'a [u16]) -> bool
+    requires { ⌜ (links ≤ 63) × (length (now offsets) ≡ 63) × (length (now periods) ≡ 63) ⌝ }
     ensures { λ r. ⌜ r ≡ any (badAt (now (offsets .entry)) (now (periods .entry))) links 0 ⌝ }
 {
     let n = links as usize;
+    let mut long = false;
+    let mut late = false;
     let mut i = 0;
     while i < n {
-        if bad_slots(offsets[i], periods[i]) {
-            return true;
+        let link_period = periods[i];
+        if 1024 < link_period {
+            long = true;
+        }
+        if link_period <= offsets[i] {
+            late = true;
         }
         i += 1;
     }
-    false
+    if long {
+        return true;
+    }
+    late
 }
 
 fn in_use(offset: u16, period: u16) -> bool
@@ -59,8 +67,9 @@ fn in_use(offset: u16, period: u16) -> bool
     period != 0
 }
 
-// Whether something stands past the last link. No entry ends the loop, so that it takes several at a time.
-fn rest_used<'a>(links: u8, offsets: &'a [u16; 63], periods: &'a [u16; 63]) -> bool
+// Whether something stands past the last link.
+fn rest_used<'a>(links: u8, offsets: &'a [u16], periods: &'a [u16]) -> bool
+    requires { ⌜ (length (now offsets) ≡ 63) × (length (now periods) ≡ 63) ⌝ }
     ensures { λ r. ⌜ r ≡ any (usedAt (now (offsets .entry)) (now (periods .entry))) (63 - links) links ⌝ }
 {
     let mut used = false;
@@ -74,16 +83,28 @@ fn rest_used<'a>(links: u8, offsets: &'a [u16; 63], periods: &'a [u16; 63]) -> b
     used
 }
 
-// 02, U1: whether some schedule file reads to it.
-pub fn passes(schedule: Schedule) -> bool
-    ensures { λ r. ⌜ r ≡ schedulePasses schedule ⌝ }
+// 02, U1: whether some schedule file reads to the schedule with these lists.
+pub fn lists_pass<'a>(links: u8, offsets: &'a [u16], periods: &'a [u16]) -> bool
+    ensures { λ r. ⌜ r ≡ schedulePasses (ofLists links (now (offsets .entry)) (now (periods .entry))) ⌝ }
 {
-    let links = schedule.links;
+    if offsets.len() != 63 {
+        return false;
+    }
+    if periods.len() != 63 {
+        return false;
+    }
     if 63 < links {
         return false;
     }
-    if slots_bad(links, &schedule.offsets, &schedule.periods) {
+    if slots_bad(links, offsets, periods) {
         return false;
     }
-    !rest_used(links, &schedule.offsets, &schedule.periods)
+    !rest_used(links, offsets, periods)
+}
+
+// The same of a schedule by value.
+pub fn passes(schedule: Schedule) -> bool
+    ensures { λ r. ⌜ r ≡ schedulePasses schedule ⌝ }
+{
+    lists_pass(schedule.links, &schedule.offsets, &schedule.periods)
 }

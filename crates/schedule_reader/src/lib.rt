@@ -6,8 +6,9 @@ use schedule_check::without_links;
 ghost use mathlib.Core.Path.{_≡_};
 ghost use Prim.Native.Nat.{_+_, _<_};
 ghost use lib.ListN.{length};
-ghost use Rattle.rulings.specs.Outcome.{refused, ruling};
+ghost use Rattle.rulings.specs.Outcome.{refused, ruling, given};
 ghost use Rattle.format.specs.Reading.{ended};
+ghost use Rattle.schedule_check.specs.Schedules.{ofLists};
 ghost use Rattle.schedule_reader.specs.Read.{withLinks, linkAt, outOfOrder, linkFault, scheduleFault, scheduleRead};
 
 // The operands of a LINK.
@@ -21,6 +22,12 @@ pub struct Link {
 pub struct Reading {
     pub verdict: Verdict,
     pub schedule: Schedule,
+}
+
+// The same by lists that are lent: how many links were read.
+pub struct Listing {
+    pub verdict: Verdict,
+    pub links: u8,
 }
 
 // 01: a refusal comes with the schedule without links.
@@ -87,16 +94,47 @@ fn fault_at(bytes: &[u8], at: usize, links: u8) -> u8
 }
 
 // END at index `at`: 10.
-fn end(size: usize, at: usize, schedule: Schedule) -> Reading
+fn end(size: usize, at: usize) -> Verdict
     requires { ⌜ at < size ⌝ }
-    ensures { λ r. ⌜ (ruling (r .verdict), r .schedule) ≡ withLinks (ended size at schedule) ⌝ }
+    ensures { λ r. ⌜ ((s : Schedule) → given (ruling r) s ≡ ended size at s) ⌝ }
 {
-    if at + 1 < size {
-        return refusal(10, at + 1);
+    let next = at + 1;
+    if next < size {
+        return Verdict::Refused(10, next);
     }
-    Reading {
-        verdict: Verdict::Accepted,
-        schedule,
+    Verdict::Accepted
+}
+
+// Fills in the schedule that the bytes stand for; where they are refused, what is filled in says nothing.
+pub fn read_lists(bytes: &[u8], offsets: &mut [u16; 63], periods: &mut [u16; 63]) -> Listing
+    ensures { λ r. ⌜ given (ruling (r .verdict)) (ofLists (r .links) (now (offsets .exit)) (now (periods .exit))) ≡ scheduleRead (now (bytes .entry)) ⌝ }
+{
+    *offsets = [0; 63];
+    *periods = [0; 63];
+    let mut links: u8 = 0;
+    let mut at = 0;
+    while at < bytes.len() {
+        if bytes[at] == 255 {
+            let verdict = end(bytes.len(), at);
+            return Listing { verdict, links };
+        }
+        let fault = fault_at(bytes, at, links);
+        if fault != 0 {
+            return Listing {
+                verdict: Verdict::Refused(fault, at),
+                links,
+            };
+        }
+        let link = link_at(bytes, at);
+        let i = links as usize;
+        offsets[i] = link.offset;
+        periods[i] = link.period;
+        links += 1;
+        at += format::schedule_size(17);
+    }
+    Listing {
+        verdict: Verdict::Refused(2, bytes.len()),
+        links,
     }
 }
 
@@ -104,22 +142,19 @@ fn end(size: usize, at: usize, schedule: Schedule) -> Reading
 pub fn read_schedule(bytes: &[u8]) -> Reading
     ensures { λ r. ⌜ (ruling (r .verdict), r .schedule) ≡ withLinks (scheduleRead (now (bytes .entry))) ⌝ }
 {
-    let mut schedule = without_links();
-    let mut at = 0;
-    while at < bytes.len() {
-        if bytes[at] == 255 {
-            return end(bytes.len(), at, schedule);
+    let mut offsets = [0u16; 63];
+    let mut periods = [0u16; 63];
+    let read = read_lists(bytes, &mut offsets, &mut periods);
+    let verdict = read.verdict;
+    match verdict {
+        Verdict::Accepted => {
+            let schedule = Schedule {
+                links: read.links,
+                offsets,
+                periods,
+            };
+            Reading { verdict, schedule }
         }
-        let fault = fault_at(bytes, at, schedule.links);
-        if fault != 0 {
-            return refusal(fault, at);
-        }
-        let link = link_at(bytes, at);
-        let i = schedule.links as usize;
-        schedule.offsets[i] = link.offset;
-        schedule.periods[i] = link.period;
-        schedule.links += 1;
-        at += format::schedule_size(bytes[at]);
+        Verdict::Refused(number, place) => refusal(number, place),
     }
-    refusal(2, bytes.len())
 }

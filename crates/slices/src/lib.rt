@@ -24,10 +24,10 @@ pub fn put(out: &mut [u8], at: usize, word: &[u8]) -> usize
 {
     let space = out.len();
     let size = word.len();
-    if space < at {
+    if space < size {
         return space + 1;
     }
-    if space - at < size {
+    if space - size < at {
         return space + 1;
     }
     store(out, at, word);

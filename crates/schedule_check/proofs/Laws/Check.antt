@@ -1,15 +1,12 @@
 -- The tests of 14, one law for each answer, and what they say of all entries.
 use Prim.Native.Nat.{ℕ, _+_, _-_, _≤_, _<_}
 use mathlib.Core.Path.{_≡_, refl, sym, _∙_, ap}
-use mathlib.Core.Bool.{Bool, true, false, not, _||_, _&&_, or-true, false≢true, and-eq-true-iff}
+use mathlib.Core.Bool.{Bool, true, false, not, _||_, or-true, false≢true, and-eq-true-iff}
 use mathlib.Core.List.{List}
 use mathlib.Core.Logic.{⊎-elim}
 use lib.Dec.{eqb}
 use lib.ListN.{length, getD, List·getD-eq-default}
-use borrow.Author.Needs.{needs}
 use borrow.Author.Tests.{le-leb, lt-leb, eq-eqb, ne-eqb, eqb-true, not-false}
-use denote.Laws.{Is}
-use mir.Val.{Val}
 use native.Mathlib.Omega.{arith}
 use Rattle.lists.specs.Search.{any}
 use Rattle.lists.proofs.Laws.Search.{lt-or-le, any-hit, any-miss, any-end, any-none, any-some}
@@ -17,7 +14,6 @@ use Rattle.schedule_check.specs.declared.Schedule.{Schedule}
 use Rattle.schedule_check.specs.Check.{inUse, badAt, usedAt, schedulePasses}
 use Rattle.schedule_check.specs.Words.{NoLink, Listed}
 use Rattle.schedule_check.proofs.Laws.Slots.{slots-when}
-use Rattle.schedule_check.proofs.Schedule.{the-row}
 
 -- Entries past the last link.
 module _ (offset period : ℕ) where
@@ -73,23 +69,28 @@ module _ (s : Schedule) where
   used = usedAt (s .offsets) (s .periods)
 
   -- The answers of the check.
-  pub passes-many : 63 < s .links → false ≡ schedulePasses s
+  pub passes-offsets : (length (s .offsets) ≡ 63 → ⊥) → false ≡ schedulePasses s
   unfolding schedulePasses
-  passes-many l = rw (lt-leb _ _ l) (sym (none-of (eqb (length (s .offsets)) 63) (eqb (length (s .periods)) 63)))
-    where
-      none-of : (a b : Bool) → a && (b && false) ≡ false
-      none-of true true = refl
-      none-of true false = refl
-      none-of false b = refl
+  passes-offsets n = rw (ne-eqb _ _ n)
 
-  module _ (long : (length (s .offsets) ≡ 63) × (length (s .periods) ≡ 63)) (few : s .links ≤ 63) (r : Bool) (slots : r ≡ any bad (s .links) 0) where
-    pub passes-bad : r ≡ true → false ≡ schedulePasses s
+  module _ (offsets-long : length (s .offsets) ≡ 63) where
+    pub passes-periods : (length (s .periods) ≡ 63 → ⊥) → false ≡ schedulePasses s
     unfolding schedulePasses
-    passes-bad e = rw (eq-eqb _ _ (long .0), eq-eqb _ _ (long .1), le-leb _ _ few, ← slots, e)
+    passes-periods n = rw (eq-eqb _ _ offsets-long, ne-eqb _ _ n)
 
-    pub passes-rest : r ≡ false → (u : Bool) → u ≡ any used (63 - s .links) (s .links) → not u ≡ schedulePasses s
-    unfolding schedulePasses
-    passes-rest e u rest = rw (eq-eqb _ _ (long .0), eq-eqb _ _ (long .1), le-leb _ _ few, ← slots, ← rest, e)
+    module _ (periods-long : length (s .periods) ≡ 63) where
+      pub passes-many : 63 < s .links → false ≡ schedulePasses s
+      unfolding schedulePasses
+      passes-many l = rw (eq-eqb _ _ offsets-long, eq-eqb _ _ periods-long, lt-leb _ _ l)
+
+      module _ (few : s .links ≤ 63) (r : Bool) (slots : r ≡ any bad (s .links) 0) where
+        pub passes-bad : r ≡ true → false ≡ schedulePasses s
+        unfolding schedulePasses
+        passes-bad e = rw (eq-eqb _ _ offsets-long, eq-eqb _ _ periods-long, le-leb _ _ few, ← slots, e)
+
+        pub passes-rest : r ≡ false → (u : Bool) → u ≡ any used (63 - s .links) (s .links) → not u ≡ schedulePasses s
+        unfolding schedulePasses
+        passes-rest e u rest = rw (eq-eqb _ _ offsets-long, eq-eqb _ _ periods-long, le-leb _ _ few, ← slots, ← rest, e)
 
   -- What they say of all entries.
   pub all-well : length (s .offsets) ≡ 63 → length (s .periods) ≡ 63 → s .links ≤ 63 → any bad (s .links) 0 ≡ false → any used (63 - s .links) (s .links) ≡ false
@@ -111,7 +112,3 @@ module _ (s : Schedule) where
 
   pub none-used : Listed s → any used (63 - s .links) (s .links) ≡ false
   none-used w = any-absent used (63 - s .links) (s .links) (λ i a b. no-use _ _ (w .spare i a))
-
--- A schedule's type tells how long its lists are.
-pub long-schedule : (s : Schedule) (us : List Val) → Is the-row s us → (length (s .offsets) ≡ 63) × (length (s .periods) ≡ 63)
-long-schedule s us good = (search needs, search needs)

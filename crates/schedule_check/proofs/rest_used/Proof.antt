@@ -22,14 +22,14 @@ loop-holds c = record { are = refl }
 mul-in-use : tie.Need-mul-in-use Inv-loop μ-loop
 mul-in-use c = search needs
 
-element-copy-out-in-use : tie.Need-element-copy-out-in-use Inv-loop μ-loop
-element-copy-out-in-use c = search needs
+shared-slice-read-in-use : tie.Need-shared-slice-read-in-use Inv-loop μ-loop
+shared-slice-read-in-use c = search needs
 
 mul-in-use-2 : tie.Need-mul-in-use-2 Inv-loop μ-loop
 mul-in-use-2 c = search needs
 
-element-copy-out-in-use-2 : tie.Need-element-copy-out-in-use-2 Inv-loop μ-loop
-element-copy-out-in-use-2 c = search needs
+shared-slice-read-in-use-2 : tie.Need-shared-slice-read-in-use-2 Inv-loop μ-loop
+shared-slice-read-in-use-2 c = search needs
 
 in-use-requires : tie.Need-in-use-requires Inv-loop μ-loop
 in-use-requires c κs = search needs
@@ -59,9 +59,9 @@ rest-used-spec =
     μ-loop
     loop-holds
     mul-in-use
-    element-copy-out-in-use
+    shared-slice-read-in-use
     mul-in-use-2
-    element-copy-out-in-use-2
+    shared-slice-read-in-use-2
     in-use-requires
     add-i
     loop-less

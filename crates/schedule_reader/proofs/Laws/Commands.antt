@@ -1,6 +1,6 @@
--- One law for each way that a check of a LINK or of END ends.
+-- One law for each way that a check of a LINK ends.
 use Prim.Native.Nat.{ℕ, _+_, _*_, _≤_, _<_}
-use mathlib.Core.Path.{_≡_, sym, _∙_, ap}
+use mathlib.Core.Path.{_≡_, sym, _∙_}
 use mathlib.Core.Bool.{Bool, true, false, not, false≢true}
 use mathlib.Core.List.{List}
 use mathlib.Core.Logic.{_⊎_, inl, inr, ⊎-elim, _↔_}
@@ -8,15 +8,11 @@ use lib.Dec.{eqb}
 use lib.ListN.{getD}
 use borrow.Author.Tests.{le-leb, lt-leb, eq-eqb, ne-eqb, leb-false, eqb-true, not-false}
 use native.Mathlib.Omega.{arith}
-use Rattle.rulings.specs.Outcome.{accepted, refused, orElse}
 use Rattle.rulings.proofs.Laws.Choices.{passed, neither}
 use Rattle.lists.proofs.Laws.Search.{lt-or-le}
 use Rattle.format.proofs.Laws.{number-one, number-two}
-use Rattle.format.specs.Reading.{ended}
-use Rattle.format.proofs.Laws.Reading.{ended-more, ended-last}
 use Rattle.schedule_reader.specs.declared.Link.{Link}
-use Rattle.schedule_check.specs.declared.Schedule.{Schedule}
-use Rattle.schedule_reader.specs.Read.{withLinks, linkAt, outOfOrder, linkFault}
+use Rattle.schedule_reader.specs.Read.{linkAt, outOfOrder, linkFault}
 use Rattle.schedule_check.specs.Schedules.{badSlots}
 use Rattle.schedule_check.specs.Words.{SlotsWithin}
 use Rattle.schedule_check.proofs.Laws.Slots.{slots-when}
@@ -76,12 +72,3 @@ unfolding linkAt
 link-at bytes at n o p en eo ep =
     rw (number-one bytes (at + 1), number-two bytes (at + 2) (at + 3) (omega arith), number-two bytes (at + 4) (at + 5) (omega arith))
     (λ i. record { node = en i; offset = eo i; period = ep i })
-
--- END at index `at`.
-module _ (size at : ℕ) (s : Schedule) where
-  pub end-more : at + 1 < size → withLinks (refused 10 (at + 1)) ≡ withLinks (ended size at s)
-  end-more l = ap withLinks (sym (ended-more size at s l))
-
-  pub end-last : size ≤ at + 1 → (accepted tt, s) ≡ withLinks (ended size at s)
-  unfolding withLinks orElse
-  end-last l = ap withLinks (sym (ended-last size at s l))

@@ -5,7 +5,7 @@ use mathlib.Core.List.{List}
 use lib.ListN.{length, getD, take}
 use native.Mathlib.Omega.{arith}
 use Rattle.format.specs.Commands.{scheduleSize}
-use Rattle.format.proofs.Laws.{link-most, size-is-link}
+use Rattle.format.proofs.Laws.{link-most, size-kind, size-link}
 use Rattle.format.proofs.Laws.Reading.{readOn, read-go, fault-passed, ended-alike, Agreeing, Settled, read-first}
 use Rattle.schedule_reader.specs.declared.Link.{Link}
 use Rattle.schedule_check.specs.declared.Schedule.{Schedule}
@@ -17,16 +17,19 @@ pub schedule-start : (bytes : List ℕ) → scheduleRead bytes ≡ readOn schedu
 unfolding scheduleRead readOn
 schedule-start bytes = refl
 
-module _ (bytes : List ℕ) (at : ℕ) (s : Schedule) where
-  -- The bytes that are read of a LINK that passes.
-  pub link-inside : scheduleFault bytes at s ≡ 0 → at + 5 < length bytes
-  link-inside e =
-      let w = fault-passed schedules bytes at s e in omega (arith, w .1, size-is-link (getD bytes at 0) _ refl (omega (arith, w .0)))
+module _ (bytes : List ℕ) (at : ℕ) (s : Schedule) (passes : scheduleFault bytes at s ≡ 0) where
+  -- A command that passes is a LINK.
+  link-tag : getD bytes at 0 ≡ 17
+  link-tag = size-kind (getD bytes at 0) (omega (arith, fault-passed schedules bytes at s passes .0))
+
+  -- The bytes that are read of it.
+  pub link-inside : at + 5 < length bytes
+  link-inside = omega (arith, fault-passed schedules bytes at s passes .1, size-link (getD bytes at 0) link-tag)
 
   -- Behind it the reading goes on.
-  pub schedule-go : at < length bytes → (getD bytes at 0 ≡ 255 → ⊥) → scheduleFault bytes at s ≡ 0 → (l : Link) → l ≡ linkAt bytes at
-      → readOn schedules bytes at s ≡ scheduleRead bytes → readOn schedules bytes (at + scheduleSize (getD bytes at 0)) (linkAdded s l) ≡ scheduleRead bytes
-  schedule-go h t e l q i = rw q (sym (read-go schedules bytes at s h t e) ∙ i)
+  pub schedule-go : at < length bytes → (getD bytes at 0 ≡ 255 → ⊥) → (l : Link) → l ≡ linkAt bytes at → (n : ℕ) → n ≡ scheduleSize 17
+      → readOn schedules bytes at s ≡ scheduleRead bytes → readOn schedules bytes (at + n) (linkAdded s l) ≡ scheduleRead bytes
+  schedule-go h t l q n is i = rw (q, is, ← link-tag) (sym (read-go schedules bytes at s h t passes) ∙ i)
 
 -- How far a reading can come: a LINK makes one of at most 63 links.
 record Within (at : ℕ) (s : Schedule) : Type 0 where

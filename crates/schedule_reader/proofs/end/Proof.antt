@@ -1,25 +1,19 @@
--- Right because the schedule is accepted just where 10 does not fail.
+-- Right because what has been read is accepted just where 10 does not fail.
 use borrow.Author.Needs.{needs}
-use mathlib.Core.Path.{_∙_}
+use mathlib.Core.Path.{sym}
 use native.Mathlib.Omega.{arith}
-use Rattle.schedule_reader.proofs.Laws.Commands.{end-more, end-last}
+use Rattle.format.proofs.Laws.Reading.{ended-more, ended-last}
 use Rattle.schedule_reader.proofs.end.Statement.{statement}
 use Rattle.schedule_reader.proofs.end.Tie as tie
 
-add-if1 : tie.Need-add-if1
-add-if1 c = search needs
-
-add-refusal : tie.Need-add-refusal
-add-refusal c = search needs
-
-refusal-requires : tie.Need-refusal-requires
-refusal-requires c κs = search needs
+add-next : tie.Need-add-next
+add-next c = search needs
 
 returns : tie.Need-returns
-returns c = c .refusal .ensures ∙ end-more _ _ _ (omega arith)
+returns c = λ s. sym (ended-more _ _ s (omega arith))
 
 returns-2 : tie.Need-returns-2
-returns-2 c = end-last _ _ _ (omega arith)
+returns-2 c = λ s. sym (ended-last _ _ s (omega arith))
 
 pub end-spec : {M : Type 1} → statement M
-end-spec = tie.close (tie.spec add-if1 add-refusal refusal-requires returns returns-2)
+end-spec = tie.close (tie.spec add-next returns returns-2)

@@ -23,8 +23,8 @@ abbrev turn : tie.After-link-command Inv-loop μ-loop → tie.At-loop Inv-loop �
 turn c = c .before .before .before .before
 
 abbrev lent : tie.After-link-command Inv-loop μ-loop → Schedule
-lent c = ofLists (c .before .before .before .before .before .before .args .links) (c .before .before .before .before .before .before .args .offsets .now)
-    (c .before .before .before .before .before .before .args .periods .now)
+lent c = let start = c .before .before .before .before .before .before .before .before in
+    ofLists (start .args .links) (start .args .offsets .now) (start .args .periods .now)
 
 made-of : (c : tie.After-link-command Inv-loop μ-loop) → c .link-command .result ≡ linkBytes (lent c) (turn c .loop .i)
 made-of c = c .link-command .ensures ∙ link-made (lent c) _
@@ -41,14 +41,14 @@ cast-link-command c = search needs
 mul-link-command : tie.Need-mul-link-command Inv-loop μ-loop
 mul-link-command c = search needs
 
-element-copy-out-link-command : tie.Need-element-copy-out-link-command Inv-loop μ-loop
-element-copy-out-link-command c = search needs
+shared-slice-read-link-command : tie.Need-shared-slice-read-link-command Inv-loop μ-loop
+shared-slice-read-link-command c = search needs
 
 mul-link-command-2 : tie.Need-mul-link-command-2 Inv-loop μ-loop
 mul-link-command-2 c = search needs
 
-element-copy-out-link-command-2 : tie.Need-element-copy-out-link-command-2 Inv-loop μ-loop
-element-copy-out-link-command-2 c = search needs
+shared-slice-read-link-command-2 : tie.Need-shared-slice-read-link-command-2 Inv-loop μ-loop
+shared-slice-read-link-command-2 c = search needs
 
 link-command-requires : tie.Need-link-command-requires Inv-loop μ-loop
 link-command-requires c κs = search needs
@@ -99,9 +99,9 @@ put-links-spec =
     add-link-command
     cast-link-command
     mul-link-command
-    element-copy-out-link-command
+    shared-slice-read-link-command
     mul-link-command-2
-    element-copy-out-link-command-2
+    shared-slice-read-link-command-2
     link-command-requires
     slice-aggregate-put
     put-requires

@@ -12,21 +12,17 @@ passes-requires c κs = search needs
 returns : tie.Need-returns
 returns c = handed-ill _ _ (c .before .passes .ensures) _ _ (c .if1 .taken)
 
-schedule-of-requires : tie.Need-schedule-of-requires
-schedule-of-requires c κs = search needs
-
-encode-schedule-requires : tie.Need-encode-schedule-requires
-encode-schedule-requires c κs = search needs
+encode-lists-requires : tie.Need-encode-lists-requires
+encode-lists-requires c κs = search needs
 
 same-length : tie.Need-same-length
 same-length c = search needs
 
 returns-2 : tie.Need-returns-2
 unfolding scheduleOf
-returns-2 c =
-    let made = c .before .before .before .before .schedule-of .ensures in
-    handed-well _ _ (c .before .before .before .before .before .before .passes .ensures) _ _ _ (passes-few _) (c .before .before .before .before .before .if1 .left)
-    _ (rw made at (c .before .before .encode-schedule .ensures))
+returns-2 c = let asked = c .before .before .before .before .before .before .before in
+    handed-well _ _ (asked .before .passes .ensures) _ _ _ (passes-few _) (asked .if1 .left) _ (c .before .before .encode-lists .ensures)
 
 pub write-schedule-spec : {M : Type 1} → statement M
-write-schedule-spec = tie.close (tie.spec passes-requires returns schedule-of-requires encode-schedule-requires same-length returns-2)
+write-schedule-spec =
+    tie.close (tie.spec passes-requires returns encode-lists-requires same-length returns-2)

@@ -4,12 +4,13 @@ use mathlib.Core.Path.{_≡_, refl, sym, _∙_, ap}
 use mathlib.Core.Bool.{Bool, true, false, cond}
 use mathlib.Core.List.{List, _++_}
 use lib.Dec.{leb}
-use lib.ListN.{length, getD, take, drop, set}
-use lib.Seq.{sets, sets-eq, paste, paste-zero, paste-suc, length-paste, take-length}
+use lib.ListN.{length, getD, take, drop, set, length-append}
+use lib.Seq.{sets, sets-eq, length-sets, paste, paste-zero, paste-suc, length-paste, take-length}
 use borrow.Author.Tests.{le-leb, lt-leb, leb-true}
 use native.Mathlib.Numerals.{add-one}
 use native.Mathlib.Omega.{arith}
 use Rattle.slices.specs.Put.{put}
+use Rattle.slices.proofs.Laws.Stores.{sets-append}
 
 -- The first i bytes of a word stand in the space from `at` on.
 pub record Pasted (old : List ℕ) (at : ℕ) (word : List ℕ) (i : ℕ) (out : List ℕ) : Type 0 where
@@ -51,6 +52,20 @@ put-stored at out piece new room is = ap (λ (o : List ℕ). (at + length piece,
 pub put-sets : (at r : ℕ) (out piece new : List ℕ) → at + length piece ≤ length out → (r, new) ≡ put (at, out) piece → new ≡ sets out at piece
 put-sets at r out piece new room e =
     ap (λ (s : ℕ × List ℕ). s .1) e ∙ ap (λ (s : ℕ × List ℕ). s .1) (put-room at out piece room) ∙ sym (sets-eq piece out at room)
+
+-- Two pieces, with room for both, are put as one.
+pub put-then : (at : ℕ) (out : List ℕ) (s t : ℕ × List ℕ) (a b : List ℕ) → at + length (a ++ b) ≤ length out → s ≡ put (at, out) a → t ≡ put s b
+    → t ≡ put (at, out) (a ++ b)
+put-then at out s t a b room p q =
+    let both = length-append a b in
+    let one : s ≡ (at + length a, sets out at a) = p ∙ all a out at (omega arith) in
+    let two : put s b ≡ (at + length a + length b, sets (sets out at a) (at + length a) b) =
+    rw one (all b (sets out at a) (at + length a) (rw length-sets (omega arith))) in
+    let more : at + length a + length b ≡ at + length (a ++ b) = omega arith in
+    q ∙ two ∙ rw (more, ← sets-append out at a b) (sym (all (a ++ b) out at room))
+  where
+    all : (piece out : List ℕ) (at : ℕ) → at + length piece ≤ length out → put (at, out) piece ≡ (at + length piece, sets out at piece)
+    all piece out at l = put-room at out piece l ∙ rw (sets-eq piece out at l)
 
 pub put-as : (s : ℕ × List ℕ) (a b : List ℕ) → a ≡ b → put s a ≡ put s b
 put-as s a b e = ap (λ (piece : List ℕ). put s piece) e

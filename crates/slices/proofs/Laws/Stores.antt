@@ -106,8 +106,12 @@ module _ (p t : Bool) (is : t ≡ p) (bytes out : List ℕ) where
   unfolding handed
   handed-ill e = rw (← is, not-true t e)
 
+  pub handed-passed : not t ≡ false → (a : Outcome ℕ × List ℕ) → a ≡ written bytes out → a ≡ handed p bytes out
+  unfolding handed
+  handed-passed e a q = q ∙ rw (← is, not-false t e)
+
   -- Nothing with more than 63 links passes.
   pub handed-well : (links : ℕ) → (p ≡ true → links ≤ 63) → not t ≡ false → (a : Outcome ℕ × List ℕ) → a ≡ encoded links bytes out
       → a ≡ handed p bytes out
   unfolding encoded handed
-  handed-well links few e a q = let pass : p ≡ true = sym is ∙ not-false t e in q ∙ rw (le-leb _ _ (few pass), pass)
+  handed-well links few e a q = handed-passed e a (q ∙ rw (le-leb _ _ (few (sym is ∙ not-false t e))))
