@@ -8,13 +8,14 @@ use mathlib.Core.List.{List, [], _∷_}
 use mathlib.Core.Logic.{_↔_}
 use lib.Dec.{eqb, ltb}
 use lib.ListN.{length, getD}
-use borrow.Author.Tests.{eqb-true, ltb-false, not-false}
+use borrow.Author.Tests.{eq-eqb, eqb-true, ltb-false, not-false}
 use native.Mathlib.Omega.{arith}
 use Rattle.rulings.specs.Outcome.{Ruling, accepted, refused}
 use Rattle.lists.specs.Lists.{joined}
 use Rattle.rulings.proofs.Laws.Outcomes.{past, settled-accepted, settled-refused}
 use Rattle.lists.proofs.Laws.Search.{first-none}
 use Rattle.site.specs.declared.Site.{Site}
+use Rattle.site.specs.Sites.{live}
 use Rattle.tree.specs.Tree.{ofLink}
 use Rattle.reservations.specs.Reservations.{periodsJudged, routeOf, widthAt}
 use Rattle.schedule.specs.Words.{SendsAt}
@@ -79,8 +80,8 @@ slot-cells v s cs xs t long =
     (length-joined 9 _ 64 0 nine, λ n l. let e : 0 + n ≡ n = omega arith in rw e at (block-joined 9 (cellsAfter v s cs xs t) 64 0 n nine l))
 
 -- Where the other checks pass, packets can be moved, on any site: nothing leaves 32 bits.
-pub advance-ready : (s : Site) (cs xs : List ℕ) → advanceRuling s cs xs ≡ accepted tt → AllMovable s cs xs
-unfolding advanceRuling arrivalsRuling firstOverflow overflows cellsOf
+pub advance-ready : (s : Site) (cs xs : List ℕ) → advanceRuling s cs xs ≡ accepted tt → AllMovable (s .states) cs xs
+unfolding advanceRuling arrivalsRuling firstOverflow overflows live cellsOf
 advance-ready s cs xs e =
     let a = past (not (eqb (length xs) 64)) 1 0 _ e in
     let b = past (not (eqb (length cs) 576)) 1 0 _ (a .1) in
@@ -91,6 +92,6 @@ advance-ready s cs xs e =
       listed = eqb-true _ _ (not-false _ (a .0));
       each = λ n l on. record {
         nine = length-block 9 n cs (omega arith);
-        fits = ltb-false _ _ (rw on at (first-none (overflows s cs xs) 64 .0 (ltb-false _ _ (c .0)) n l));
+        fits = ltb-false _ _ (rw (eq-eqb _ _ on) at (first-none (overflows s cs xs) 64 .0 (ltb-false _ _ (c .0)) n l));
       };
     }

@@ -1,40 +1,71 @@
 // What the links of a site move in one slot.
 use pinwheel::sends_in;
 use rulings::Verdict;
-use site::Site;
+use site::live_count;
 use slot_checks::judge_arrivals;
 ghost use mathlib.Core.Path.{_≡_};
 ghost use Rattle.rulings.specs.Outcome.{ruling};
+ghost use Rattle.site.specs.declared.Site.{Site};
+ghost use Rattle.site.specs.Sites.{ofLists};
 ghost use Rattle.moves.specs.Hops.{own};
 ghost use Rattle.moves.specs.Moves.{advanceOf, cellsAfter};
-ghost use Prim.Native.Nat.{min};
+ghost use Prim.Native.Nat.{ℕ, min};
 ghost use Rattle.lists.specs.Lists.{joined};
 ghost use Rattle.queues.specs.Cells.{step};
-ghost use Rattle.moves.specs.Inner.{PeriodsIn, hopsIn, Movable, AllMovable};
+ghost use Rattle.moves.specs.Inner.{PeriodsIn, withSlots, hopsIn, Movable, AllMovable, withRoutes};
 
-// One slot without check 14: arrivals join, and every sending link moves what it may of each live flow. It is no operation of 01. For a caller who knows
-// that the site passes, as one that was just read does, it is `slot` of crate `simulation`: the law `slot-advances` there.
-pub fn advance(site: Site, counters: &mut [u32], arrivals: &[u16], number: u32) -> Verdict
-    ensures { λ r. ⌜ (ruling r, now (counters .exit)) ≡ advanceOf own site (now (counters .entry)) (now (arrivals .entry)) number ⌝ }
+// One slot on a site with these lists and without check 14: arrivals join, and every sending link moves what it may of each live flow. It is no operation of
+// 01. For a caller who knows that the site passes, as one that was just read does, it is `slot` of crate `simulation`: the law `slot-advances` there.
+pub fn advance<'a>(
+    links: u8,
+    parents: &'a [u8; 63],
+    offsets: &'a [u16; 63],
+    periods: &'a [u16; 63],
+    states: &'a [u8; 64],
+    entries: &'a [u8; 64],
+    rates: &'a [u8; 64],
+    counters: &mut [u32],
+    arrivals: &[u16],
+    number: u32,
+) -> Verdict
+    ensures { λ r. ⌜ ((s : Site) → (ruling r, now (counters .exit))
+        ≡ advanceOf own (ofLists links (now (parents .entry)) (s .capacities) (s .gaps) (now (offsets .entry)) (now (periods .entry)) (now (states .entry))
+        (now (entries .entry)) (now (rates .entry)) (s .deadlines)) (now (counters .entry)) (now (arrivals .entry)) number) ⌝ }
 {
-    let verdict = judge_arrivals(site, counters, arrivals);
+    let verdict = judge_arrivals(states, counters, arrivals);
     match verdict {
-        Verdict::Accepted => move_all(site, counters, arrivals, number),
+        Verdict::Accepted => {
+            let sending = periods_sending(links, offsets, periods, number);
+            move_all(
+                parents,
+                &sending,
+                states,
+                entries,
+                rates,
+                counters,
+                arrivals,
+            )
+        }
         Verdict::Refused(_number, _place) => {}
     }
     verdict
 }
 
 // For each link its period, by which widths go, if it sends in the slot, else 0: worked out once for all flows, whose width is then the rate times this.
-fn periods_sending(site: Site, slot: u32) -> [u16; 63]
-    ensures { λ r. ⌜ PeriodsIn site slot r ⌝ }
+fn periods_sending<'a>(
+    links: u8,
+    offsets: &'a [u16; 63],
+    periods: &'a [u16; 63],
+    slot: u32,
+) -> [u16; 63]
+    ensures { λ r. ⌜ ((s : Site) → PeriodsIn (withSlots s links (now (offsets .entry)) (now (periods .entry))) slot r) ⌝ }
 {
-    let links = site::link_count(site.links);
+    let count = site::link_count(links);
     let mut sending = [0u16; 63];
     let mut i = 0;
-    while i < links {
-        if sends_in(site.periods[i], site.offsets[i], slot) {
-            sending[i] = site.periods[i];
+    while i < count {
+        if sends_in(periods[i], offsets[i], slot) {
+            sending[i] = periods[i];
         }
         i += 1;
     }
@@ -85,28 +116,40 @@ fn move_packets<'a>(
     }
 }
 
-// One slot of every live flow. The nine cells of each are lent on from where they stand.
-fn move_all(site: Site, counters: &mut [u32], arrivals: &[u16], number: u32)
-    requires { ⌜ AllMovable site (now counters) (now arrivals) ⌝ }
-    ensures { λ _. ⌜ now (counters .exit) ≡ joined (cellsAfter own site (now (counters .entry)) (now (arrivals .entry)) number) 64 0 ⌝ }
+// One slot of every live flow, up to the last of them. The nine cells of each are lent on from where they stand.
+fn move_all<'a>(
+    parents: &'a [u8; 63],
+    sending: &'a [u16; 63],
+    states: &'a [u8; 64],
+    entries: &'a [u8; 64],
+    rates: &'a [u8; 64],
+    counters: &mut [u32],
+    arrivals: &[u16],
+)
+    requires { ⌜ AllMovable (now states) (now counters) (now arrivals) ⌝ }
+    ensures { λ _. ⌜ ((s : Site) (t : ℕ)
+        → PeriodsIn (withRoutes s (now (parents .entry)) (now (states .entry)) (now (entries .entry)) (now (rates .entry))) t (now (sending .entry))
+        → now (counters .exit)
+        ≡ joined (cellsAfter own (withRoutes s (now (parents .entry)) (now (states .entry)) (now (entries .entry)) (now (rates .entry)))
+        (now (counters .entry)) (now (arrivals .entry)) t) 64 0) ⌝ }
 {
-    let sending = periods_sending(site, number);
-    let parents = site.parents;
+    let mut left = live_count(states);
     let mut n = 0;
-    while n < 64 {
-        if site.states[n] == 1 {
+    while 0 < left {
+        if states[n] == 1 {
             let at = 9 * n;
             let end = at + 9;
-            let entry = site.entries[n];
-            let rate = site.rates[n];
+            let entry = entries[n];
+            let rate = rates[n];
             move_packets(
                 &mut counters[at..end],
-                &parents,
-                &sending,
+                parents,
+                sending,
                 entry,
                 rate,
                 arrivals[n],
             );
+            left -= 1;
         }
         n += 1;
     }

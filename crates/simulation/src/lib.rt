@@ -31,5 +31,16 @@ pub fn slot(site: Site, counters: &mut [u32], arrivals: &[u16], number: u32) -> 
     if call != 0 {
         return Verdict::Refused(call, 0);
     }
-    advance(site, counters, arrivals, number)
+    advance(
+        site.links,
+        &site.parents,
+        &site.offsets,
+        &site.periods,
+        &site.states,
+        &site.entries,
+        &site.rates,
+        counters,
+        arrivals,
+        number,
+    )
 }

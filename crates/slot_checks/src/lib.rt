@@ -1,10 +1,12 @@
 // Checks 19 and 20: what a slot's arrivals are judged by.
 use rulings::Verdict;
-use site::Site;
+use site::live_count;
 ghost use Prim.Native.Nat.{_≤_};
 ghost use mathlib.Core.Path.{_≡_};
 ghost use lib.ListN.{length};
 ghost use Rattle.lists.specs.Lists.{total};
+ghost use Rattle.site.specs.declared.Site.{Site};
+ghost use Rattle.site.specs.Sites.{withStates};
 ghost use Rattle.slot_checks.specs.Checks.{firstOverflow, firstUnexpected, advanceRuling};
 ghost use Rattle.rulings.specs.Outcome.{ruling};
 
@@ -28,33 +30,35 @@ fn sum(cells: &[u32]) -> u64
     sum
 }
 
-// 01, 19: the lowest live number whose nine cells and arrival sum to more than 32 bits can hold, or 64.
-fn first_overflow(site: Site, counters: &[u32], arrivals: &[u16]) -> usize
+// 01, 19: the lowest live number whose nine cells and arrival sum to more than 32 bits can hold, or 64. It ends with the last live flow.
+fn first_overflow(states: &[u8; 64], counters: &[u32], arrivals: &[u16]) -> usize
     requires { ⌜ (length (now counters) ≡ 576) × (length (now arrivals) ≡ 64) ⌝ }
-    ensures { λ r. ⌜ r ≡ firstOverflow site (now (counters .entry)) (now (arrivals .entry)) ⌝ }
+    ensures { λ r. ⌜ ((s : Site) → r ≡ firstOverflow (withStates s (now (states .entry))) (now (counters .entry)) (now (arrivals .entry))) ⌝ }
 {
+    let mut left = live_count(states);
     let mut n = 0;
-    while n < 64 {
-        if site.states[n] == 1 {
+    while 0 < left {
+        if states[n] == 1 {
             let at = 9 * n;
             let end = at + 9;
             if 4294967295 < sum(&counters[at..end]) + wide(arrivals[n] as u32) {
                 return n;
             }
+            left -= 1;
         }
         n += 1;
     }
-    n
+    64
 }
 
 // 01, 20: the lowest number that is not live and has arrivals, or 64.
-fn first_unexpected(site: Site, arrivals: &[u16]) -> usize
+fn first_unexpected(states: &[u8; 64], arrivals: &[u16]) -> usize
     requires { ⌜ length (now arrivals) ≡ 64 ⌝ }
-    ensures { λ r. ⌜ r ≡ firstUnexpected site (now (arrivals .entry)) ⌝ }
+    ensures { λ r. ⌜ ((s : Site) → r ≡ firstUnexpected (withStates s (now (states .entry))) (now (arrivals .entry))) ⌝ }
 {
     let mut n = 0;
     while n < 64 {
-        if site.states[n] != 1 {
+        if states[n] != 1 {
             if 0 < arrivals[n] {
                 return n;
             }
@@ -64,9 +68,9 @@ fn first_unexpected(site: Site, arrivals: &[u16]) -> usize
     n
 }
 
-// The checks of a slot besides 14, in their order: 1, 19, 20.
-pub fn judge_arrivals(site: Site, counters: &[u32], arrivals: &[u16]) -> Verdict
-    ensures { λ r. ⌜ ruling r ≡ advanceRuling site (now (counters .entry)) (now (arrivals .entry)) ⌝ }
+// The checks of a slot besides 14, in their order: 1, 19, 20. They look at the states of a site's flows and at nothing else of it.
+pub fn judge_arrivals(states: &[u8; 64], counters: &[u32], arrivals: &[u16]) -> Verdict
+    ensures { λ r. ⌜ ((s : Site) → ruling r ≡ advanceRuling (withStates s (now (states .entry))) (now (counters .entry)) (now (arrivals .entry))) ⌝ }
 {
     if arrivals.len() != 64 {
         return Verdict::Refused(1, 0);
@@ -74,8 +78,8 @@ pub fn judge_arrivals(site: Site, counters: &[u32], arrivals: &[u16]) -> Verdict
     if counters.len() != 576 {
         return Verdict::Refused(1, 0);
     }
-    let over = first_overflow(site, counters, arrivals);
-    let stray = first_unexpected(site, arrivals);
+    let over = first_overflow(states, counters, arrivals);
+    let stray = first_unexpected(states, arrivals);
     if over < 64 {
         return Verdict::Refused(19, over);
     }

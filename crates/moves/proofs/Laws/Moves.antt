@@ -1,13 +1,13 @@
 -- The code that moves packets: the periods of the links that send, the way up a flow's route, and the loop over the flows.
 use Prim.Native.Nat.{ℕ, zero, suc, _+_, _-_, _*_, _≤_, _<_, min}
 use mathlib.Core.Path.{_≡_, refl, sym, _∙_, ap}
-use mathlib.Core.Bool.{Bool, true, false, cond, false≢true}
+use mathlib.Core.Bool.{Bool, true, false, cond}
 use mathlib.Core.List.{List, [], _∷_, _++_, append-assoc, append-nil}
 use mathlib.Core.Logic.{_⊎_, inl, inr}
-use lib.ListN.{length, getD, take, drop, set, replicate, length-set, length-append, length-drop, drop-of-length-le, List·getD-eq-default, take-append-drop}
-use lib.Seq.{drop-cons, take-suc-set, drop-set-lt, append-snoc, getD-set-same, getD-set-other, drop-drop, take-at, drop-at, take-all}
+use lib.ListN.{length, getD, take, drop, set, replicate, length-set, length-append, length-take, length-drop, drop-of-length-le}
+use lib.Seq.{drop-cons, take-suc-set, drop-set-lt, append-snoc, getD-set-same, getD-set-other, drop-drop, take-add, take-at, drop-at, take-all, length-take-le}
 use borrow.Author.Count.{below-more}
-use borrow.Author.Tests.{lt-ltb, le-leb, lt-leb, eq-eqb, ne-eqb}
+use borrow.Author.Tests.{lt-ltb, le-leb, lt-leb, eq-eqb}
 use native.Mathlib.Nat.{mul-zero}
 use native.Mathlib.Numerals.{add-one}
 use native.Mathlib.Omega.{arith}
@@ -20,10 +20,10 @@ use Rattle.site.specs.declared.Site.{Site}
 use Rattle.site.specs.Sites.{used, live}
 use Rattle.tree.specs.Tree.{ofLink, up, route}
 use Rattle.reservations.specs.Reservations.{periodsJudged, routeOf, widthAt}
-use Rattle.tree.proofs.Laws.Tree.{route-up, route-end}
+use Rattle.tree.proofs.Laws.Tree.{up-within, route-up, route-end, way-up}
 use Rattle.schedule.specs.Schedule.{linkSends}
 use Rattle.counters.specs.Blocks.{block, cellsOf}
-use Rattle.counters.proofs.Laws.{length-block, length-joined, block-lent}
+use Rattle.counters.proofs.Laws.{length-block, block-lent}
 use Rattle.queues.specs.Cells.{Hop, moved, arrived, delivering, passed, step}
 use Rattle.queues.proofs.Laws.Cells.{moved-most, getD-total, total-set, length-step}
 use Rattle.moves.specs.Hops.{Service, own, hopsAlong, hopsOf}
@@ -72,50 +72,54 @@ module _ (s : Site) (t : ℕ) where
       rest = λ k m. w .rest k (omega arith);
     }
 
-  pub sending-end : (i : ℕ) (xs : List ℕ) → Sending s t i xs → used (s .links) ≤ i → length (periodsJudged s) ≡ 63 → PeriodsIn s t xs
+  pub sending-end : (i : ℕ) (xs : List ℕ) → Sending s t i xs → used (s .links) ≤ i → PeriodsIn s t xs
   unfolding periodIn ofLink linkSends used
-  sending-end i xs w l long = record { each = each }
+  sending-end i xs w l = record { each = each }
     where
-      past : (k : ℕ) → i ≤ k → (b : Bool) → linkSends s (suc k) t ≡ b → 0 ≡ cond b (getD (periodsJudged s) k 0) 0
-      past k m false q = refl
-      past k m true q = go (lt-or-le k 63)
-        where
-          go : (k < 63) ⊎ (63 ≤ k) → 0 ≡ getD (periodsJudged s) k 0
-          go (inl h) =
-              let off : linkSends s (suc k) t ≡ false = rw (lt-ltb 0 (suc k) (omega arith), lt-leb (suc k) (s .links) (omega (arith, w .most))) in
-              absurd (false≢true (sym off ∙ q))
-          go (inr h) = sym (List·getD-eq-default (periodsJudged s) 0 {n = k} (omega arith))
+      past : (k : ℕ) → i ≤ k → k < 63 → linkSends s (suc k) t ≡ false
+      past k m h = rw (lt-ltb 0 (suc k) (omega arith), lt-leb (suc k) (s .links) (omega (arith, w .most)))
 
-      each : (node : ℕ) → ofLink xs node ≡ cond (linkSends s node t) (ofLink (periodsJudged s) node) 0
-      each zero = refl
-      each (suc k) = go (lt-or-le k i)
+      each : (node : ℕ) → node ≤ 63 → ofLink xs node ≡ cond (linkSends s node t) (ofLink (periodsJudged s) node) 0
+      each zero h = refl
+      each (suc k) h = go (lt-or-le k i)
         where
           go : (k < i) ⊎ (i ≤ k) → getD xs k 0 ≡ cond (linkSends s (suc k) t) (getD (periodsJudged s) k 0) 0
           go (inl m) = w .done k m
-          go (inr m) = w .rest k m ∙ past k m (linkSends s (suc k) t) refl
+          go (inr m) = w .rest k m ∙ rw (past k m (omega arith))
 
--- By that list every flow moves what it moves by the site's own schedule.
+-- By that list every flow moves what it moves by the site's own schedule, since a route has only nodes of the list of parents.
 module _ (s : Site) (t : ℕ) (sending : List ℕ) (w : PeriodsIn s t sending) where
-  moved-as : (rate node q : ℕ) → moved (inSlot sending rate node) 0 q ≡ moved (own s rate node) t q
+  moved-as : (rate node q : ℕ) → node ≤ 63 → moved (inSlot sending rate node) 0 q ≡ moved (own s rate node) t q
   unfolding moved widthAt periodIn
-  moved-as rate node q = rw (w .each node) (go (linkSends s node t))
+  moved-as rate node q l = rw (w .each node l) (go (linkSends s node t))
     where
       go : (b : Bool) → min q (rate * cond b (ofLink (periodsJudged s) node) 0) ≡ cond b (min q (rate * ofLink (periodsJudged s) node)) 0
       go true = refl
       go false = rw mul-zero (omega arith)
 
-  passed-as : (rate : ℕ) (nodes : List ℕ) (coming : ℕ) (cs : List ℕ)
-      → passed (hopsAlong (inSlot sending rate) nodes) 0 coming cs ≡ passed (hopsAlong (own s rate) nodes) t coming cs
-  unfolding hopsAlong passed
-  passed-as rate [] coming cs = refl
-  passed-as rate (m ∷ ms) coming [] = refl
-  passed-as rate (m ∷ ms) coming (q ∷ cs) =
-      rw (moved-as rate m q) (ap (λ (r : List ℕ). (q - moved (own s rate m) t q + coming) ∷ r) (passed-as rate ms (moved (own s rate m) t q) cs))
+  module _ (p : List ℕ) (few : length p ≤ 63) (rate : ℕ) where
+    passed-as : (entry coming : ℕ) (cs : List ℕ)
+        → passed (hopsAlong (inSlot sending rate) (route p entry)) 0 coming cs ≡ passed (hopsAlong (own s rate) (route p entry)) t coming cs
+    unfolding hopsAlong passed
+    passed-as =
+        way-up p
+        (λ n. (coming : ℕ) (cs : List ℕ)
+        → passed (hopsAlong (inSlot sending rate) (route p n)) 0 coming cs ≡ passed (hopsAlong (own s rate) (route p n)) t coming cs)
+        (λ n l coming cs. rw (route-end p n l)) (λ n l above coming cs. rw (route-up p n l) (go n l above coming cs))
+      where
+        go : (n : ℕ) → up p n < n
+            → ((coming : ℕ) (cs : List ℕ)
+            → passed (hopsAlong (inSlot sending rate) (route p (up p n))) 0 coming cs ≡ passed (hopsAlong (own s rate) (route p (up p n))) t coming cs)
+            → (coming : ℕ) (cs : List ℕ)
+            → passed (hopsAlong (inSlot sending rate) (n ∷ route p (up p n))) 0 coming cs ≡ passed (hopsAlong (own s rate) (n ∷ route p (up p n))) t coming cs
+        go n l above coming [] = refl
+        go n l above coming (q ∷ cs) =
+            rw (moved-as rate n q (omega (arith, up-within p n l)))
+            (ap (λ (r : List ℕ). (q - moved (own s rate n) t q + coming) ∷ r) (above (moved (own s rate n) t q) cs))
 
-  step-as : (rate : ℕ) (nodes : List ℕ) (x : ℕ) (cs : List ℕ)
-      → step (hopsAlong (inSlot sending rate) nodes) 0 x cs ≡ step (hopsAlong (own s rate) nodes) t x cs
-  unfolding step
-  step-as rate nodes x cs = passed-as rate nodes 0 (arrived x cs)
+    step-as : (entry x : ℕ) (cs : List ℕ) → step (hopsIn p sending rate entry) 0 x cs ≡ step (hopsAlong (own s rate) (route p entry)) t x cs
+    unfolding step
+    step-as entry x cs = passed-as entry 0 (arrived x cs)
 
 -- The cells after the slot, from those in which the first k hops have moved already.
 unfoldable pub onward : List Hop → ℕ → ℕ → ℕ → List ℕ → List ℕ
@@ -222,70 +226,79 @@ length-after v s cs xs t k l = go (live s k)
     go true = length-step (hopsOf v s k) t (getD xs k 0) (block 9 k cs) ∙ length-block 9 k cs l
     go false = length-block 9 k cs l
 
--- The loop over the flows: those below n have had their slot, the others have the cells of the start.
-pub record Stepping (s : Site) (t : ℕ) (cs₀ xs cs : List ℕ) (n : ℕ) : Type 0 where
+-- The loop over the flows: the numbers from n on have the cells of the start.
+pub record Kept (cs₀ cs : List ℕ) (n : ℕ) : Type 0 where
   pub most : n ≤ 64
   pub long : length cs ≡ 576
-  pub done : cs ≡ joined (cellsAfter own s cs₀ xs t) n 0 ++ drop (9 * n) cs₀
+  pub rest : drop (9 * n) cs ≡ drop (9 * n) cs₀
 
-module _ (s : Site) (t : ℕ) (cs₀ xs : List ℕ) (m : AllMovable s cs₀ xs) where
-  pub stepping-start : Stepping s t cs₀ xs cs₀ 0
-  unfolding joined
-  stepping-start = record { most = omega arith; long = m .counted; done = refl }
+pub kept-start : (cs : List ℕ) → length cs ≡ 576 → Kept cs cs 0
+kept-start cs l = record { most = omega arith; long = l; rest = refl }
 
-  nine : (k : ℕ) → k < 64 → length (cellsAfter own s cs₀ xs t k) ≡ 9
-  nine k l = length-after own s cs₀ xs t k (omega (arith, m .counted))
+-- And those below n have had their slot.
+pub record Stepped (s : Site) (t : ℕ) (cs₀ xs cs : List ℕ) (n : ℕ) : Type 0 where
+  pub done : take (9 * n) cs ≡ joined (cellsAfter own s cs₀ xs t) n 0
 
-  module _ (cs : List ℕ) (n : ℕ) (w : Stepping s t cs₀ xs cs n) (l : n < 64) where
-    front : length (joined (cellsAfter own s cs₀ xs t) n 0) ≡ 9 * n
-    front = length-joined 9 (cellsAfter own s cs₀ xs t) n 0 (λ k lo hi. nine k (omega arith))
+pub stepped-start : (s : Site) (t : ℕ) (cs xs : List ℕ) → Stepped s t cs xs cs 0
+unfolding joined
+stepped-start s t cs xs = record { done = refl }
 
-    before : take (9 * n) cs ≡ joined (cellsAfter own s cs₀ xs t) n 0
-    before = ap (λ (r : List ℕ). take (9 * n) r) (w .done) ∙ take-at _ _ (9 * n) front
+module _ (cs₀ cs : List ℕ) (n : ℕ) (w : Kept cs₀ cs n) (l : n < 64) where
+  -- What is lent on is flow n's cells of the start.
+  cells-lent : take (9 * n + 9 - 9 * n) (drop (9 * n) cs) ≡ cellsOf n cs₀
+  unfolding cellsOf block
+  cells-lent = block-lent 9 n cs ∙ rw (w .rest)
 
-    behind : drop (9 * n) cs ≡ drop (9 * n) cs₀
-    behind = ap (λ (r : List ℕ). drop (9 * n) r) (w .done) ∙ drop-at (joined (cellsAfter own s cs₀ xs t) n 0) (drop (9 * n) cs₀) (9 * n) front
+  pub kept-ready : (states xs : List ℕ) → AllMovable states cs₀ xs → getD states n 0 ≡ 1 → Movable (take (9 * n + 9 - 9 * n) (drop (9 * n) cs)) (getD xs n 0)
+  kept-ready states xs m on = rw cells-lent (m .each n l on)
 
-    -- What is lent on is flow n's cells of the start.
-    cells-lent : take (9 * n + 9 - 9 * n) (drop (9 * n) cs) ≡ cellsOf n cs₀
-    unfolding cellsOf block
-    cells-lent = block-lent 9 n cs ∙ rw behind
+  pub kept-dead : Kept cs₀ cs (n + 1)
+  kept-dead =
+      let end : 9 * (n + 1) ≡ 9 * n + 9 = omega arith in
+      record { most = omega arith; long = w .long; rest = rw (end, ← drop-drop 9 (9 * n) cs, ← drop-drop 9 (9 * n) cs₀, w .rest) }
 
-    stored : (ys : List ℕ) → ys ≡ cellsAfter own s cs₀ xs t n
-        → take (9 * n) cs ++ (ys ++ drop (9 * n + 9 - 9 * n) (drop (9 * n) cs)) ≡ joined (cellsAfter own s cs₀ xs t) (n + 1) 0 ++ drop (9 * (n + 1)) cs₀
-    stored ys q =
+  module _ (hs : List Hop) (x : ℕ) (ys : List ℕ) (e : ys ≡ step hs 0 x (take (9 * n + 9 - 9 * n) (drop (9 * n) cs))) where
+    front : length (take (9 * n) cs ++ ys) ≡ 9 * (n + 1)
+    front = rw (length-append, length-take-le (9 * n) cs (omega (arith, w .long)), e, length-step, length-take, length-drop, w .long) (omega arith)
+
+    put : take (9 * n) cs ++ (ys ++ drop (9 * n + 9 - 9 * n) (drop (9 * n) cs)) ≡ (take (9 * n) cs ++ ys) ++ drop (9 * (n + 1)) cs
+    put =
         let size : 9 * n + 9 - 9 * n ≡ 9 = omega arith in let end : 9 * (n + 1) ≡ 9 * n + 9 = omega arith in
-        rw (size, before, behind, q, end, joined-more (cellsAfter own s cs₀ xs t) n, ← drop-drop 9 (9 * n) cs₀)
-        (sym (append-assoc (joined (cellsAfter own s cs₀ xs t) n 0) (cellsAfter own s cs₀ xs t n) (drop 9 (drop (9 * n) cs₀))))
+        rw (size, end, drop-drop 9 (9 * n) cs) (sym (append-assoc (take (9 * n) cs) ys (drop (9 * n + 9) cs)))
 
-    step-on : (ds : List ℕ) → ds ≡ joined (cellsAfter own s cs₀ xs t) (n + 1) 0 ++ drop (9 * (n + 1)) cs₀ → Stepping s t cs₀ xs ds (n + 1)
-    step-on ds e = record {
+    pub kept-live : Kept cs₀ (take (9 * n) cs ++ (ys ++ drop (9 * n + 9 - 9 * n) (drop (9 * n) cs))) (n + 1)
+    kept-live = record {
       most = omega arith;
-      long = rw e (simp (length-append, length-joined 9 (cellsAfter own s cs₀ xs t) (n + 1) 0 (λ k lo hi. nine k (omega arith)), length-drop)
-          (omega (arith, m .counted)));
-      done = e;
+      long = rw (put, length-append, front, length-drop, w .long) (omega arith);
+      rest = rw put (drop-at (take (9 * n) cs ++ ys) (drop (9 * (n + 1)) cs) (9 * (n + 1)) front ∙ kept-dead .rest);
     }
 
-    module _ (on : getD (s .states) n 0 ≡ 1) where
-      living : live s n ≡ true
-      unfolding live
-      living = eq-eqb _ _ on
+module _ (s : Site) (t : ℕ) (cs₀ xs cs : List ℕ) (n : ℕ) (w : Kept cs₀ cs n) (v : Stepped s t cs₀ xs cs n) where
+  pub stepped-live : n < 64 → getD (s .states) n 0 ≡ 1 → (sending ys : List ℕ) → PeriodsIn s t sending → length (s .parents) ≡ 63
+      → ys ≡ step (hopsIn (s .parents) sending (getD (s .rates) n 0) (getD (s .entries) n 0)) 0 (getD xs n 0) (take (9 * n + 9 - 9 * n) (drop (9 * n) cs))
+      → Stepped s t cs₀ xs (take (9 * n) cs ++ (ys ++ drop (9 * n + 9 - 9 * n) (drop (9 * n) cs))) (n + 1)
+  unfolding cellsAfter hopsOf routeOf live
+  stepped-live l on sending ys g long q = record {
+    done = rw (put cs₀ cs n w l _ _ ys q) (take-at (take (9 * n) cs ++ ys) _ (9 * (n + 1)) (front cs₀ cs n w l _ _ ys q)
+        ∙ rw (v .done, joined-more (cellsAfter own s cs₀ xs t) n, q, step-as s t sending g (s .parents) (omega arith), cells-lent cs₀ cs n w l, eq-eqb _ _ on));
+  }
 
-      pub stepping-ready : Movable (take (9 * n + 9 - 9 * n) (drop (9 * n) cs)) (getD xs n 0)
-      stepping-ready = rw cells-lent (m .each n l living)
+  pub stepped-dead : n < 64 → live s n ≡ false → Stepped s t cs₀ xs cs (n + 1)
+  unfolding cellsAfter
+  stepped-dead l off =
+      let end : 9 * (n + 1) ≡ 9 * n + 9 = omega arith in
+      let size : 9 * n + 9 - 9 * n ≡ 9 = omega arith in
+      record { done = rw (end, take-add (9 * n) 9 cs, v .done, joined-more (cellsAfter own s cs₀ xs t) n, off, ← cells-lent cs₀ cs n w l, size) }
 
-      pub stepping-live : (sending ys : List ℕ) → PeriodsIn s t sending
-          → ys ≡ step (hopsIn (s .parents) sending (getD (s .rates) n 0) (getD (s .entries) n 0)) 0 (getD xs n 0) (take (9 * n + 9 - 9 * n) (drop (9 * n) cs))
-          → Stepping s t cs₀ xs (take (9 * n) cs ++ (ys ++ drop (9 * n + 9 - 9 * n) (drop (9 * n) cs))) (n + 1)
-      unfolding cellsAfter hopsOf routeOf
-      stepping-live sending ys g q = step-on _ (stored ys (q ∙ step-as s t sending g _ _ _ _ ∙ rw (cells-lent, living)))
+-- Where no number from n on is live, that is all.
+module _ (s : Site) (t : ℕ) (cs₀ xs cs : List ℕ) where
+  stepped-rest : (r n : ℕ) → n + r ≡ 64 → Kept cs₀ cs n → Stepped s t cs₀ xs cs n → ((k : ℕ) → n ≤ k → k < 64 → live s k ≡ false)
+      → cs ≡ joined (cellsAfter own s cs₀ xs t) 64 0
+  stepped-rest zero n e w v none = let end : n ≡ 64 = omega arith in sym (take-all 576 cs (omega (arith, w .long))) ∙ rw end at (v .done)
+  stepped-rest (suc r) n e w v none =
+      stepped-rest r (n + 1) (omega arith) (kept-dead cs₀ cs n w (omega arith))
+      (stepped-dead s t cs₀ xs cs n w v (omega arith) (none n (omega arith) (omega arith))) (λ k lo hi. none k (omega arith) hi)
 
-    pub stepping-dead : (getD (s .states) n 0 ≡ 1 → ⊥) → Stepping s t cs₀ xs cs (n + 1)
-    unfolding cellsAfter live
-    stepping-dead off =
-        step-on cs (sym (rw (take-append-drop (9 * n + 9 - 9 * n) (drop (9 * n) cs)) (take-append-drop (9 * n) cs))
-        ∙ stored (take (9 * n + 9 - 9 * n) (drop (9 * n) cs)) (rw (cells-lent, ne-eqb _ _ off)))
-
-  pub stepping-end : (cs : List ℕ) (n : ℕ) → Stepping s t cs₀ xs cs n → 64 ≤ n → cs ≡ joined (cellsAfter own s cs₀ xs t) 64 0
-  stepping-end cs n w l =
-      let e : n ≡ 64 = omega (arith, w .most) in w .done ∙ rw (e, drop-of-length-le cs₀ {i = 576} (omega (arith, m .counted))) (append-nil _)
+  pub stepped-end : (n : ℕ) → Kept cs₀ cs n → Stepped s t cs₀ xs cs n → ((k : ℕ) → n ≤ k → k < 64 → live s k ≡ false)
+      → cs ≡ joined (cellsAfter own s cs₀ xs t) 64 0
+  stepped-end n w = stepped-rest (64 - n) n (omega (arith, w .most)) w

@@ -1,33 +1,33 @@
 -- Right because `Sending` holds: the entries before i are in and the others 0; the number of links left falls.
 use borrow.Author.Needs.{needs}
 use Prim.Native.Nat.{_-_, _<_}
-use mathlib.Core.Path.{_≡_}
 use mathlib.Core.Logic.{inl, inr}
-use lib.ListN.{length}
 use native.Mathlib.Omega.{arith}
-use Rattle.site.specs.Sites.{used}
+use Rattle.site.specs.declared.Site.{Site}
+use Rattle.site.specs.Sites.{used, emptySite}
 use Rattle.reservations.specs.Reservations.{periodsJudged}
+use Rattle.moves.specs.Inner.{withSlots}
 use Rattle.moves.proofs.Laws.Moves.{Sending, sending-start, sending-few, sending-yes, sending-no, sending-end}
 use Rattle.moves.proofs.periods_sending.Statement.{statement}
 use Rattle.moves.proofs.periods_sending.Tie as tie
 
 abbrev Inv-loop : tie.InvT-loop
-Inv-loop slot site links sending₀ i₀ sending i = Sending site slot i sending
+Inv-loop links offsets periods slot count sending₀ i₀ sending i = (s : Site) → Sending (withSlots s links offsets periods) slot i sending
 
 abbrev μ-loop : tie.MeasureT-loop
-μ-loop slot site links sending₀ i₀ sending i = links - i
+μ-loop links offsets periods slot count sending₀ i₀ sending i = count - i
 
-here : (c : tie.In-loop Inv-loop μ-loop) → c .before .loop .i < used (c .before .before .before .args .t1 .links)
+here : (c : tie.In-loop Inv-loop μ-loop) → c .before .loop .i < used (c .before .before .before .args .links)
 here c = rw (c .before .before .link-count .ensures) at (c .loop-test .taken)
 
 few : (c : tie.In-loop Inv-loop μ-loop) → c .before .loop .i < 63
-few c = sending-few _ _ _ _ (c .before .loop .inv) (here c)
+few c = sending-few _ _ _ _ (c .before .loop .inv emptySite) (here c)
 
 link-count-requires : tie.Need-link-count-requires Inv-loop μ-loop
 link-count-requires c κs = search needs
 
 loop-holds : tie.Need-loop-holds Inv-loop μ-loop
-loop-holds c = sending-start _ _
+loop-holds c = λ s. sending-start _ _
 
 mul-sends-in : tie.Need-mul-sends-in Inv-loop μ-loop
 mul-sends-in c = omega (arith, few c)
@@ -67,16 +67,12 @@ unfolding periodsJudged
 loop-again c =
     let at = c .before .before .before .before in
     elim (c .if1 .came) [
-      | inl w ↦ rw (w .2) (sending-yes _ _ _ _ (at .before .loop .inv) (here at) _ (c .before .sends-in .ensures) (w .0 .taken))
-      | inr w ↦ rw (w .1) (sending-no _ _ _ _ (at .before .loop .inv) (here at) _ (c .before .sends-in .ensures) (w .0 .left))
+      | inl w ↦ rw (w .2) (λ s. sending-yes _ _ _ _ (at .before .loop .inv s) (here at) _ (c .before .sends-in .ensures) (w .0 .taken))
+      | inr w ↦ rw (w .1) (λ s. sending-no _ _ _ _ (at .before .loop .inv s) (here at) _ (c .before .sends-in .ensures) (w .0 .left))
     ]
 
 returns : tie.Need-returns Inv-loop μ-loop
-unfolding periodsJudged
-returns c =
-    let site = c .before .before .before .args .t1 in
-    let long : length (site .periods) ≡ 63 = search needs in
-    sending-end _ _ _ _ (c .before .loop .inv) (rw (c .before .before .link-count .ensures) at (c .loop-test .left)) long
+returns c = λ s. sending-end _ _ _ _ (c .before .loop .inv s) (rw (c .before .before .link-count .ensures) at (c .loop-test .left))
 
 pub periods-sending-spec : {M : Type 1} → statement M
 periods-sending-spec =

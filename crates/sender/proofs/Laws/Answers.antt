@@ -26,10 +26,6 @@ unfolding sendingChild
 look-start s p t n e = record { most = omega arith; rest = rw e }
 
 module _ (s : Site) (p t n : ℕ) (w : Looking s p t n) where
-  pub look-most : n ≤ 63
-  unfolding used
-  look-most = omega (arith, w .most)
-
   pub look-end : n ≤ 0 → 0 ≡ sendingChild s p t
   unfolding last
   look-end l = let e : n ≡ 0 = omega arith in sym (w .rest ∙ rw e)

@@ -14,7 +14,9 @@ look-up-requires : tie.Need-look-up-requires
 look-up-requires c κs = search needs
 
 returns-2 : tie.Need-returns-2
-returns-2 c = sender-passes _ _ _ _ (c .before .before .passes .ensures) (c .before .if1 .left) _ (c .look-up .ensures)
+returns-2 c =
+    let judged = c .before .before .before .before .before in
+    sender-passes _ _ _ _ (judged .before .passes .ensures) (judged .if1 .left) _ (c .look-up .ensures (judged .before .before .args .t1))
 
 pub sender-spec : {M : Type 1} → statement M
 sender-spec = tie.close (tie.spec passes-requires returns look-up-requires returns-2)

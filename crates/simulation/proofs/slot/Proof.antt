@@ -26,8 +26,11 @@ same-length-2 : tie.Need-same-length-2
 same-length-2 c = search needs
 
 returns-3 : tie.Need-returns-3
-returns-3 c = c .before .before .advance .ensures ∙ sym (slot-advances _ _ _ _ _
-    (passes-sound _ .1 (call-when _ _ .0 (sym (c .before .before .before .before .before .call-fault .ensures) ∙ c .before .before .before .before .if2 .left) .1)))
+returns-3 c =
+    let passed = c .before .before .before .before .before .before .before .before .before .before .before in
+    let site = passed .before .before .before .before .before .before .args .t1 in
+    c .before .before .advance .ensures site
+    ∙ sym (slot-advances _ site _ _ _ (passes-sound _ .1 (call-when _ _ .0 (sym (passed .before .call-fault .ensures) ∙ passed .if2 .left) .1)))
 
 pub slot-spec : {M : Type 1} → statement M
 slot-spec =

@@ -1,14 +1,18 @@
 -- One law for each answer of the checks of a slot's arrivals, and for each turn of their searches.
 use Prim.Native.Nat.{ℕ, _+_, _-_, _*_, _≤_, _<_}
-use mathlib.Core.Path.{_≡_, _∙_}
+use mathlib.Core.Path.{_≡_, sym, _∙_}
 use mathlib.Core.Bool.{true, false}
+use mathlib.Core.Logic.{_⊎_, inl, inr}
 use mathlib.Core.List.{List}
 use lib.ListN.{length, getD, take, drop}
 use borrow.Author.Tests.{lt-ltb, le-ltb, eq-eqb, ne-eqb}
+use native.Mathlib.Omega.{arith}
 use Rattle.rulings.specs.Outcome.{Ruling, accepted, refused}
 use Rattle.lists.specs.Lists.{total}
+use Rattle.lists.proofs.Laws.Search.{lt-or-le, first-skip, first-end}
 use Rattle.site.specs.declared.Site.{Site}
 use Rattle.site.specs.Sites.{live}
+use Rattle.site.proofs.Laws.Flows.{Left, none-left}
 use Rattle.counters.specs.Blocks.{cellsOf}
 use Rattle.counters.proofs.Laws.{block-lent}
 use Rattle.slot_checks.specs.Checks.{overflows, firstOverflow, unexpected, firstUnexpected, arrivalsRuling, advanceRuling}
@@ -44,6 +48,16 @@ module _ (s : Site) (xs : List ℕ) (n : ℕ) where
     pub overflow-no : v + x ≤ 4294967295 → overflows s cs xs n ≡ false
     unfolding overflows live
     overflow-no l = rw (eq-eqb _ _ on, ← summed, ← f) (le-ltb _ _ l)
+
+-- Behind the last live flow none overflows.
+pub overflow-none : (s : Site) (cs xs : List ℕ) (n left : ℕ) → Left s n left → left ≡ 0 → ((k : ℕ) → k < n → overflows s cs xs k ≡ false)
+    → 64 ≡ firstOverflow s cs xs
+unfolding firstOverflow overflows
+overflow-none s cs xs n left w z none = sym (first-skip _ 64 64 (omega arith) (λ k l. go k l (lt-or-le k n)) ∙ first-end _ 64 64 (omega arith))
+  where
+    go : (k : ℕ) → k < 64 → (k < n) ⊎ (n ≤ k) → overflows s cs xs k ≡ false
+    go k l (inl h) = none k h
+    go k l (inr h) = rw (none-left s n left w z k h l)
 
 -- The checks of a slot besides 14, one by one: `over` and `stray` are what the callees answer.
 module _ (s : Site) (cs xs : List ℕ) where
