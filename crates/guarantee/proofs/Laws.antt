@@ -2,7 +2,6 @@
 -- trips hold after each, that a release leaves what a fresh plan would give, and that the reader and admission judge alike. The modules named here hold the lemmas.
 pub mod Frame
 pub mod Demand
-pub mod Bytes
 pub mod Reach
 use Prim.Native.Nat.{ℕ, zero, suc, _+_, _-_, _≤_, _<_}
 use mathlib.Core.Path.{_≡_, refl, sym, _∙_, ap}
@@ -32,7 +31,8 @@ use Rattle.queues.specs.Words.{HasLeft}
 use Rattle.queues.proofs.Laws.Delay.{span-some}
 use Rattle.plan.proofs.Laws as plan
 use Rattle.plan_reader.specs.Read.{readOf}
-use Rattle.plan_writer.specs.Write.{flowBytes, flowIfLive, planBytes}
+use Rattle.plan_writer.specs.Write.{flowBytes, flowIfLive, planBytes, bytesBefore, bytesBehind}
+use Rattle.plan_writer.proofs.Laws.Changed.{plan-parts, plan-without}
 use Rattle.admission.specs.Calls.{admitOf, releaseOf}
 use Rattle.admission.specs.Words.{boundFor}
 use Rattle.admission.proofs.Laws.{admit-accepted, admit-refused, release-accepted, release-refused, bound-asked, cells-after, admitted-passes}
@@ -43,9 +43,8 @@ use Rattle.simulation.proofs.Laws.{slot-accepted, slot-refused, start-accepted,
 use Rattle.moves.proofs.Laws.{slot-cells}
 use Rattle.guarantee.specs.Runs.{Call, slot, admit, release, start, State, Promise, called, checksOf, Log, Run, none, then, admissions}
 use Rattle.guarantee.specs.Demand.{entered, slotsOf, Stays, NoStart, rateOf, deadlineOf, boundOf, Begins, Allowed, Answered, Kept, newest}
-use Rattle.guarantee.specs.Words.{Exchanged, bytesBefore, bytesBehind, nodesAlone}
+use Rattle.guarantee.specs.Words.{Exchanged, nodesAlone}
 use Rattle.guarantee.proofs.Laws.Demand.{followed, demand3-any, own-steady, span-along, own-few, own-serves, own-some, own-short}
-use Rattle.guarantee.proofs.Laws.Bytes.{plan-parts, plan-without}
 use Rattle.guarantee.proofs.Laws.Reach.{below-none, below-all, below-passes, reach}
 
 -- What the functions promise is a step of a run: these are the equations of their `ensures`, word for word.
@@ -260,7 +259,7 @@ release-fresh v σ σ′ n p =
     let w = release-accepted (σ .site) (σ′ .site) (σ .counters) (σ′ .counters) n p in
     let sound = w .0 .sound in (
       plan-parts (σ .site) n (w .0 .few) ∙ rw (w .0 .living),
-      rw (w .1, ← plan-without (σ .site) n (w .0 .few) (sound .formed .shape .states))
+      rw (w .1, ← plan-without (σ .site) (sound .formed .shape) n (w .0 .few))
           (plan.written-read (withoutFlow (σ .site) n) (flow-taken (σ .site) (passes-sound (σ .site) .1 sound) n) .1),
     )
 

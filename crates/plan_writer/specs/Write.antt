@@ -1,8 +1,8 @@
 -- What the writer of plans puts into a borrowed slice.
-use Prim.Native.Nat.{ℕ}
+use Prim.Native.Nat.{ℕ, _+_, _-_}
 use mathlib.Core.Bool.{cond}
 use mathlib.Core.List.{List, [], _∷_, _++_}
-use lib.ListN.{getD}
+use lib.ListN.{length, getD}
 use Rattle.lists.specs.Lists.{joined}
 use Rattle.site.specs.declared.Site.{Site}
 use Rattle.site.specs.Sites.{live}
@@ -32,3 +32,13 @@ commandBytes s = joined (nodeBytes s) (s .links) 0 ++ joined (flowIfLive s) 64 0
 -- These and END.
 unfoldable pub planBytes : Site → List ℕ
 planBytes s = commandBytes s ++ (255 ∷ [])
+
+-- The plan bytes of a site before and behind the FLOW of number n, and the index at which it stands or, where the number is not live, would stand.
+abbrev pub bytesBefore : Site → ℕ → List ℕ
+bytesBefore s n = joined (nodeBytes s) (s .links) 0 ++ joined (flowIfLive s) n 0
+
+abbrev pub bytesBehind : Site → ℕ → List ℕ
+bytesBehind s n = joined (flowIfLive s) (63 - n) (n + 1) ++ (255 ∷ [])
+
+unfoldable pub flowPlace : Site → ℕ → ℕ
+flowPlace s n = length (bytesBefore s n)

@@ -5,7 +5,7 @@ ghost use mathlib.Core.Path.{_≡_};
 ghost use Prim.Native.Nat.{_+_, _≤_};
 ghost use lib.ListN.{length};
 ghost use lib.Seq.{sets};
-ghost use Rattle.slices.specs.Written.{writing, written, encoded};
+ghost use Rattle.slices.specs.Written.{writing, written};
 ghost use Rattle.plan_writer.specs.Write.{nodeCommand, nodeBytes, flowCommand, flowIfLive, planBytes};
 ghost use Rattle.lists.specs.Lists.{joined};
 ghost use Rattle.site_check.specs.Check.{writtenIf};
@@ -105,17 +105,6 @@ fn put_plan(site: Site, out: &mut [u8]) -> Written
     Written::Length(size)
 }
 
-// The writing without check 14, which is no operation of 01: only more links than there are entries for get 14. On a site that passes it is `write_plan`:
-// the law `plain-writing` of crate `site_check`.
-pub fn encode_plan(site: Site, out: &mut [u8]) -> Written
-    ensures { λ r. ⌜ (writing r, now (out .exit)) ≡ encoded (site .links) (planBytes site) (now (out .entry)) ⌝ }
-{
-    if 63 < site.links {
-        return Written::Refused(14, 0);
-    }
-    put_plan(site, out)
-}
-
 // 01: a writer asks 14 first and judges the slice last.
 pub fn write_plan(site: Site, out: &mut [u8]) -> Written
     ensures { λ r. ⌜ (writing r, now (out .exit)) ≡ writtenIf site (planBytes site) (now (out .entry)) ⌝ }
@@ -123,5 +112,5 @@ pub fn write_plan(site: Site, out: &mut [u8]) -> Written
     if !site_check::passes(site) {
         return Written::Refused(14, 0);
     }
-    encode_plan(site, out)
+    put_plan(site, out)
 }

@@ -8,9 +8,6 @@ use Rattle.slices.proofs.Laws.Stores.{written-short, written-all}
 use Rattle.plan_writer.proofs.put_plan.Statement.{statement}
 use Rattle.plan_writer.proofs.put_plan.Tie as tie
 
-abbrev measured : tie.After-put-nodes → tie.After-flows-size
-measured c = c .before .before .before
-
 size-requires : tie.Need-size-requires
 size-requires c κs = search needs
 
@@ -37,6 +34,9 @@ add-size-2 c = let s = sizes c in omega arith
 
 returns : tie.Need-returns
 returns c = written-short _ _ _ (plan-size _ _ (c .before .before .before .size .ensures) _ (c .before .flows-size .ensures)) (omega arith)
+
+abbrev measured : tie.After-put-nodes → tie.After-flows-size
+measured c = c .before .before .before
 
 put-nodes-requires : tie.Need-put-nodes-requires
 put-nodes-requires c κs =
