@@ -32,6 +32,7 @@ use Rattle.counters.specs.Blocks.{cellsOf, withCells, zeros}
 use Rattle.counters.proofs.Laws.{length-with, block-same, block-other, length-zeros}
 use Rattle.admission.specs.Calls.{change, routeFor, unfitLink, flowRuling, admitRuling, admitOf, numberRuling, releaseRuling, releaseOf}
 use Rattle.admission.specs.Words.{boundFor, Admissible, Releasable, admissionChecks, releaseChecks}
+use Rattle.admission.specs.Inner.{flowRulingWith}
 use Rattle.admission.proofs.Laws.Answers.{flow-passes, number-passes, call-passes}
 use Rattle.admission.proofs.Laws.Again.{again-site, again-admissible}
 
@@ -41,7 +42,7 @@ route-room s f = room-when s (f .rate) (routeFor s f) (route-some (s .parents) (
 
 -- An admission is accepted just when it is as the words say.
 pub admits-when : (s : Site) (counters : List ℕ) (f : Flow) → (admitRuling s counters f ≡ accepted tt) ↔ Admissible s counters f
-unfolding flowRuling admitRuling periodsJudged
+unfolding flowRuling flowRulingWith admitRuling periodsJudged
 admits-when s counters f = (
   λ e. let a = checked-past (callFault s counters) _ e in
       let b = checked-past (flowLimits (s .links) 0 f) _ (a .1) in
@@ -58,7 +59,7 @@ admits-when s counters f = (
         time = ltb-false _ _ (g .0);
       },
   λ w. sym (call-passes s counters _ refl _ (call-when s counters .1 (w .counted, w .sound)) _
-      (flow-passes s f _ refl (flow-good (s .links) 0 f .1 (w .good)) _ refl (w .free) _ refl (route-room s f .1 (w .room)) _ refl (w .time))),
+      (flow-passes (unfitLink s f) s f _ refl (flow-good (s .links) 0 f .1 (w .good)) _ refl (w .free) _ refl (route-room s f .1 (w .room)) _ refl (w .time))),
 )
 
 -- So its number has nine of the counters.
@@ -190,7 +191,7 @@ cells-after counters n long few =
       block-other 9 n counters fits (zeros 9) (length-zeros 9),
     )
 
--- A site that passes check 14 passes it after an accepted admission. (After a release it does by `flow-taken` of crate `limits`.)
+-- A site that passes check 14 passes it after an accepted admission. (After a release it does by `flow-taken` of crate `site_check`.)
 pub admitted-passes : (s : Site) (counters : List ℕ) (f : Flow) → Admissible s counters f → passesOf (withFlow s f) ≡ true
 unfolding periodsJudged widthAt
 admitted-passes s counters f w =

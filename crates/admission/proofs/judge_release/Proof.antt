@@ -17,7 +17,9 @@ judge-number-requires c κs = search needs
 
 returns-2 : tie.Need-returns-2
 unfolding releaseRuling
-returns-2 c = call-passes _ _ _ (c .before .before .call-fault .ensures) _ (c .before .if1 .left) _ (c .judge-number .ensures)
+returns-2 c =
+    let passed = c .before .before .before .before in
+    call-passes _ _ _ (passed .before .call-fault .ensures) _ (passed .if1 .left) _ (c .judge-number .ensures (passed .before .before .before .args .t1))
 
 pub judge-release-spec : {M : Type 1} → statement M
 judge-release-spec =
