@@ -2,13 +2,13 @@
 use pinwheel::Answer;
 use rulings::Verdict;
 use sender::Lookup;
-use site::Site;
 use slices::Written;
 ghost use mathlib.Core.Path.{_≡_};
 ghost use Prim.Native.Nat.{_+_, _*_};
 ghost use Rattle.rulings.specs.Outcome.{accepted, refused, ruling};
 ghost use Rattle.pinwheel.specs.Assign.{outcome};
-ghost use Rattle.site.specs.Sites.{flowCount};
+ghost use Rattle.site.specs.declared.Site.{Site};
+ghost use Rattle.site.specs.Sites.{ofLists, withStates, flowCount};
 ghost use Rattle.reservations.specs.Reservations.{delayBound};
 ghost use Rattle.admission.specs.Calls.{numberRuling};
 ghost use Rattle.sender.specs.Sender.{found};
@@ -59,20 +59,31 @@ pub fn base(answer: Answer) -> u64
 }
 
 // The links in the lowest 8 bits of the value, the flows in the next.
-pub fn sizes(site: Site) -> u64
-    ensures { λ r. ⌜ told r ≡ accepted (site .links + 256 * flowCount site) ⌝ }
+pub fn sizes(links: u8, states: &[u8; 64]) -> u64
+    ensures { λ r. ⌜ ((s : Site) → told r ≡ accepted (links + 256 * flowCount (withStates s (now (states .entry))))) ⌝ }
 {
-    let flows = site::flow_count(site);
-    site.links as u64 + 256 * flows
+    let flows = site::live_count(states) as u64;
+    links as u64 + 256 * flows
 }
 
-// The bound of a live flow.
-pub fn bound_of(site: Site, number: u8) -> u64
-    ensures { λ r. ⌜ told r ≡ valued (numberRuling site number) (delayBound site number) ⌝ }
+// The bound of a live flow of a site with these lists.
+pub fn bound_of<'a>(
+    parents: &'a [u8; 63],
+    periods: &'a [u16; 63],
+    states: &'a [u8; 64],
+    entries: &'a [u8; 64],
+    number: u8,
+) -> u64
+    ensures { λ r. ⌜ ((s : Site) → told r ≡ valued (numberRuling (ofLists (s .links) (now (parents .entry)) (s .capacities) (s .gaps) (s .offsets)
+        (now (periods .entry)) (now (states .entry)) (now (entries .entry)) (s .rates) (s .deadlines)) number) (delayBound (ofLists (s .links) (now (parents .entry))
+        (s .capacities) (s .gaps) (s .offsets) (now (periods .entry)) (now (states .entry)) (now (entries .entry)) (s .rates) (s .deadlines)) number)) ⌝ }
 {
-    let verdict = admission::judge_number(site, number);
+    let verdict = admission::judge_number(states, number);
     match verdict {
-        Verdict::Accepted => reservations::delay_bound(site, number) as u64,
+        Verdict::Accepted => {
+            let entry = entries[number as usize];
+            reservations::sum_along(periods, parents, entry) as u64
+        }
         Verdict::Refused(number, place) => refusal(number, place),
     }
 }

@@ -1,21 +1,9 @@
 // The calls of a host that read a plan and change none: its sizes, its schedule, the rehearsal, who sends, and the bound of a flow.
 use host_answers::refusal;
 use rulings::Verdict;
-use site::Site;
 ghost use mathlib.Core.Path.{_≡_};
-ghost use mathlib.Core.Bool.{true};
-ghost use Rattle.site_check.specs.Check.{passesOf, writtenIf};
-ghost use Rattle.schedule_writer.specs.Write.{scheduleOf, scheduleBytes};
 ghost use Rattle.host_answers.specs.Answers.{told};
 ghost use Rattle.host_calls.specs.Calls.{planReadFrom, scheduleFrom, startFrom, slotFrom, senderFrom, boundFrom};
-
-// The writer does not ask check 14 again, which is right on a site that passes it: the law `plain-writing` of crate site_check.
-fn scheduled(site: Site, out: &mut [u8]) -> u64
-    requires { ⌜ passesOf site ≡ true ⌝ }
-    ensures { λ r. ⌜ (told r, now (out .exit)) ≡ writtenIf site (scheduleBytes (scheduleOf site)) (now (out .entry)) ⌝ }
-{
-    host_answers::size(schedule_writer::encode_schedule(schedule_writer::schedule_of(site), out))
-}
 
 // What refuses the reading is told as it is: by this call a host learns what is wrong with its bytes.
 pub fn read_plan(plan: &[u8]) -> u64
@@ -24,19 +12,24 @@ pub fn read_plan(plan: &[u8]) -> u64
     let read = plan_reader::read_plan(plan);
     let verdict = read.verdict;
     match verdict {
-        Verdict::Accepted => host_answers::sizes(read.site),
+        Verdict::Accepted => host_answers::sizes(read.site.links, &read.site.states),
         Verdict::Refused(number, place) => refusal(number, place),
     }
 }
 
-// The site was just read, so that only the slice is left to judge.
+// The site was just read, so that only the slice is left to judge, and the writer does not ask check 14 again: the law `plain-writing` of crate site_check.
 pub fn schedule(plan: &[u8], out: &mut [u8]) -> u64
     ensures { λ r. ⌜ (told r, now (out .exit)) ≡ scheduleFrom (now (plan .entry)) (now (out .entry)) ⌝ }
 {
     let read = plan_reader::read_plan(plan);
     let verdict = read.verdict;
     match verdict {
-        Verdict::Accepted => scheduled(read.site, out),
+        Verdict::Accepted => host_answers::size(schedule_writer::encode_lists(
+            read.site.links,
+            &read.site.offsets,
+            &read.site.periods,
+            out,
+        )),
         Verdict::Refused(fault, place) => refusal(fault, place),
     }
 }
@@ -73,7 +66,19 @@ pub fn slot(plan: &[u8], counters: &mut [u32], arrivals: &[u16], number: u32) ->
     let verdict = read.verdict;
     match verdict {
         Verdict::Accepted => {
-            host_answers::ruled(moves::advance(read.site, counters, arrivals, number))
+            let verdict = moves::advance(
+                read.site.links,
+                &read.site.parents,
+                &read.site.offsets,
+                &read.site.periods,
+                &read.site.states,
+                &read.site.entries,
+                &read.site.rates,
+                counters,
+                arrivals,
+                number,
+            );
+            host_answers::ruled(verdict)
         }
         Verdict::Refused(_number, _place) => refusal(14, 0),
     }
@@ -86,19 +91,32 @@ pub fn sender(plan: &[u8], parent: u8, slot: u32) -> u64
     let read = plan_reader::read_plan(plan);
     let verdict = read.verdict;
     match verdict {
-        Verdict::Accepted => host_answers::child(sender::look_up(read.site, parent, slot)),
+        Verdict::Accepted => host_answers::child(sender::look_up(
+            read.site.links,
+            &read.site.parents,
+            &read.site.offsets,
+            &read.site.periods,
+            parent,
+            slot,
+        )),
         Verdict::Refused(_number, _place) => refusal(14, 0),
     }
 }
 
 // 5 and 16 as for a release, since only a live flow has a bound.
-pub fn bound(plan: &[u8], number: u8) -> u64
-    ensures { λ r. ⌜ told r ≡ boundFrom (now (plan .entry)) number ⌝ }
+pub fn bound(plan: &[u8], flow: u8) -> u64
+    ensures { λ r. ⌜ told r ≡ boundFrom (now (plan .entry)) flow ⌝ }
 {
     let read = plan_reader::read_plan(plan);
     let verdict = read.verdict;
     match verdict {
-        Verdict::Accepted => host_answers::bound_of(read.site, number),
+        Verdict::Accepted => host_answers::bound_of(
+            &read.site.parents,
+            &read.site.periods,
+            &read.site.states,
+            &read.site.entries,
+            flow,
+        ),
         Verdict::Refused(_number, _place) => refusal(14, 0),
     }
 }

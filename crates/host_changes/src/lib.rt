@@ -2,58 +2,84 @@
 use host_answers::refusal;
 use rulings::Verdict;
 use site::Flow;
-use site::Site;
-use slices::Written;
 ghost use mathlib.Core.Path.{_≡_};
-ghost use mathlib.Core.Bool.{true};
-ghost use Prim.Native.Nat.{_<_};
-ghost use lib.ListN.{length};
-ghost use Rattle.site_check.specs.Check.{passesOf, writtenIf};
-ghost use Rattle.counters.specs.Blocks.{withCells, zeros};
+ghost use Prim.Native.Nat.{_≤_};
+ghost use Rattle.site.specs.declared.Site.{Site};
 ghost use Rattle.admission.specs.Calls.{admitOf, releaseOf};
-ghost use Rattle.plan_writer.specs.Write.{planBytes};
+ghost use Rattle.admission.specs.Words.{Admissible, Releasable};
+ghost use Rattle.plan_writer.specs.Write.{planBytes, flowPlace};
 ghost use Rattle.host_answers.specs.Answers.{told};
-ghost use Rattle.host_changes.specs.Changes.{storedWith, rewritten, admitFrom, releaseFrom};
+ghost use Rattle.host_changes.specs.Changes.{rewritten, admitFrom, releaseFrom};
+ghost use Rattle.host_changes.specs.Inner.{withCounts};
 
-// The plan of the changed site. The cells are cleared last, since too short a slice is to change nothing. The writer does not ask check 14 again, which
-// is right on a site that passes it: the law `plain-writing` of crate site_check.
-fn rewrite(next: Site, counters: &mut [u32], number: u8, out: &mut [u8]) -> u64
-    requires { ⌜ (passesOf next ≡ true) × (length (now counters) ≡ 576) × (number < 64) ⌝ }
-    ensures { λ r. ⌜ (told r, now (counters .exit), now (out .exit))
-        ≡ storedWith (writtenIf next (planBytes next) (now (out .entry))) (withCells number (zeros 9) (now (counters .entry))) (now (counters .entry)) ⌝ }
+// Where the FLOW of this number stands in the plan of a site with so many links and these states, or would stand: behind all nodes and the live flows below.
+fn place_of(links: u8, states: &[u8; 64], number: u8) -> usize
+    requires { ⌜ number ≤ 63 ⌝ }
+    ensures { λ r. ⌜ ((s : Site) → r ≡ flowPlace (withCounts s links (now (states .entry))) number) ⌝ }
 {
-    let written = plan_writer::encode_plan(next, out);
-    match written {
-        Written::Length(size) => {
-            counters::clear_flow(counters, number);
-            size as u64
+    let mut below: u8 = 0;
+    let mut n: u8 = 0;
+    while n < number {
+        if states[n as usize] == 1 {
+            below += 1;
         }
-        Written::Refused(fault, place) => refusal(fault, place),
+        n += 1;
     }
+    format::size(1) * links as usize + format::size(2) * below as usize
 }
 
-fn admitted(site: Site, counters: &mut [u32], flow: Flow, out: &mut [u8]) -> u64
-    requires { ⌜ (passesOf site ≡ true) × (length (now counters) ≡ 576) ⌝ }
-    ensures { λ r. ⌜ (told r, now (counters .exit), now (out .exit))
-        ≡ rewritten (admitOf site (now (counters .entry)) flow) (now (counters .entry)) (now (out .entry)) ⌝ }
+// The plan of a site that a flow comes to is the old one with six bytes more: the law `plan-with-flow` of crate `plan_writer`. The cells are cleared last, since
+// too short a slice is to change nothing.
+fn inserted<'a>(
+    links: u8,
+    states: &'a [u8; 64],
+    plan: &[u8],
+    counters: &mut [u32],
+    flow: Flow,
+    out: &mut [u8],
+) -> u64
+    requires { ⌜ ((s : Site) × Admissible (withCounts s links (now states)) (now counters) flow × (planBytes (withCounts s links (now states)) ≡ now plan)) ⌝ }
+    ensures { λ r. ⌜ ((s : Site) → Admissible (withCounts s links (now (states .entry))) (now (counters .entry)) flow
+        → planBytes (withCounts s links (now (states .entry))) ≡ now (plan .entry) → (told r, now (counters .exit), now (out .exit))
+        ≡ rewritten (admitOf (withCounts s links (now (states .entry))) (now (counters .entry)) flow) (now (counters .entry)) (now (out .entry))) ⌝ }
 {
-    let verdict = admission::judge_flow(site, flow);
-    match verdict {
-        Verdict::Accepted => rewrite(site::with_flow(site, flow), counters, flow.number, out),
-        Verdict::Refused(number, place) => refusal(number, place),
+    let size = plan.len() + format::size(2);
+    if out.len() < size {
+        return refusal(1, 0);
     }
+    let at = place_of(links, states, flow.number);
+    let command = plan_writer::flow_command(flow.number, flow.entry, flow.rate, flow.deadline);
+    let kept = slices::put(out, 0, &plan[..at]);
+    let added = slices::put(out, kept, &command);
+    slices::put(out, added, &plan[at..]);
+    counters::clear_flow(counters, flow.number);
+    size as u64
 }
 
-fn released(site: Site, counters: &mut [u32], number: u8, out: &mut [u8]) -> u64
-    requires { ⌜ (passesOf site ≡ true) × (length (now counters) ≡ 576) ⌝ }
-    ensures { λ r. ⌜ (told r, now (counters .exit), now (out .exit))
-        ≡ rewritten (releaseOf site (now (counters .entry)) number) (now (counters .entry)) (now (out .entry)) ⌝ }
+// The plan of a site that a flow leaves is the old one with six bytes less: the law `plan-without-flow`.
+fn dropped<'a>(
+    links: u8,
+    states: &'a [u8; 64],
+    plan: &[u8],
+    counters: &mut [u32],
+    number: u8,
+    out: &mut [u8],
+) -> u64
+    requires { ⌜ ((s : Site) × Releasable (withCounts s links (now states)) (now counters) number × (planBytes (withCounts s links (now states)) ≡ now plan)) ⌝ }
+    ensures { λ r. ⌜ ((s : Site) → Releasable (withCounts s links (now (states .entry))) (now (counters .entry)) number
+        → planBytes (withCounts s links (now (states .entry))) ≡ now (plan .entry) → (told r, now (counters .exit), now (out .exit))
+        ≡ rewritten (releaseOf (withCounts s links (now (states .entry))) (now (counters .entry)) number) (now (counters .entry)) (now (out .entry))) ⌝ }
 {
-    let verdict = admission::judge_number(site, number);
-    match verdict {
-        Verdict::Accepted => rewrite(site::without_flow(site, number), counters, number, out),
-        Verdict::Refused(fault, place) => refusal(fault, place),
+    let size = plan.len() - format::size(2);
+    if out.len() < size {
+        return refusal(1, 0);
     }
+    let at = place_of(links, states, number);
+    let behind = at + format::size(2);
+    let kept = slices::put(out, 0, &plan[..at]);
+    slices::put(out, kept, &plan[behind..]);
+    counters::clear_flow(counters, number);
+    size as u64
 }
 
 // The operands come one by one, since C has no value of a flow; a plan that reads to no site is 14.
@@ -72,7 +98,8 @@ pub fn admit(
     if counters.len() != 576 {
         return refusal(1, 0);
     }
-    let read = plan_reader::read_plan(plan);
+    let mut loads = [0u32; 63];
+    let read = plan_reader::read_with(plan, &mut loads);
     let verdict = read.verdict;
     match verdict {
         Verdict::Accepted => {
@@ -82,7 +109,28 @@ pub fn admit(
                 rate,
                 deadline,
             };
-            admitted(read.site, counters, flow, out)
+            let verdict = admission::judge_flow(
+                read.site.links,
+                &read.site.parents,
+                &read.site.capacities,
+                &read.site.periods,
+                &read.site.states,
+                &loads,
+                flow,
+            );
+            match verdict {
+                Verdict::Accepted => {
+                    inserted(
+                        read.site.links,
+                        &read.site.states,
+                        plan,
+                        counters,
+                        flow,
+                        out,
+                    )
+                }
+                Verdict::Refused(number, place) => refusal(number, place),
+            }
         }
         Verdict::Refused(_number, _place) => refusal(14, 0),
     }
@@ -99,7 +147,22 @@ pub fn release(plan: &[u8], counters: &mut [u32], number: u8, out: &mut [u8]) ->
     let read = plan_reader::read_plan(plan);
     let verdict = read.verdict;
     match verdict {
-        Verdict::Accepted => released(read.site, counters, number, out),
+        Verdict::Accepted => {
+            let verdict = admission::judge_number(&read.site.states, number);
+            match verdict {
+                Verdict::Accepted => {
+                    dropped(
+                        read.site.links,
+                        &read.site.states,
+                        plan,
+                        counters,
+                        number,
+                        out,
+                    )
+                }
+                Verdict::Refused(fault, place) => refusal(fault, place),
+            }
+        }
         Verdict::Refused(_number, _place) => refusal(14, 0),
     }
 }

@@ -1,29 +1,15 @@
 // Schedules and the slot rule as lists that a host lends: a schedule file read to lists and written from them, and the slot rule alone.
 use host_answers::refusal;
 use rulings::Verdict;
-use schedule_check::Schedule;
 ghost use mathlib.Core.Path.{_≡_};
 ghost use lib.ListN.{length};
 ghost use Rattle.pinwheel.specs.Assign.{assigned};
 ghost use Rattle.host_answers.specs.Answers.{told};
-ghost use Rattle.host_lists.specs.Lists.{linksOf, scheduleReadFrom, scheduleWrittenFrom};
+ghost use Rattle.host_lists.specs.Lists.{scheduleReadFrom, scheduleWrittenFrom};
 
-fn entries_of(list: &[u16]) -> [u16; 63]
-    requires { ⌜ length (now list) ≡ 63 ⌝ }
-    ensures { λ r. ⌜ r ≡ now (list .entry) ⌝ }
-{
-    let mut entries = [0u16; 63];
-    let mut i = 0;
-    while i < 63 {
-        entries[i] = list[i];
-        i += 1;
-    }
-    entries
-}
-
-fn fill(entries: [u16; 63], list: &mut [u16])
-    requires { ⌜ length (now list) ≡ 63 ⌝ }
-    ensures { λ _. ⌜ now (list .exit) ≡ entries ⌝ }
+fn fill(entries: &[u16; 63], list: &mut [u16])
+    requires { ⌜ (length (now entries) ≡ 63) × (length (now list) ≡ 63) ⌝ }
+    ensures { λ _. ⌜ now (list .exit) ≡ now (entries .entry) ⌝ }
 {
     let mut i = 0;
     while i < 63 {
@@ -32,19 +18,8 @@ fn fill(entries: [u16; 63], list: &mut [u16])
     }
 }
 
-// Both lists are filled whole: what stood past the links is no part of a schedule.
-fn given(schedule: Schedule, offsets: &mut [u16], periods: &mut [u16]) -> u64
-    requires { ⌜ (length (now offsets) ≡ 63) × (length (now periods) ≡ 63) ⌝ }
-    ensures { λ r. ⌜ (told r, now (offsets .exit), now (periods .exit)) ≡ linksOf schedule ⌝ }
-{
-    let starts = schedule.offsets;
-    let lengths = schedule.periods;
-    fill(starts, offsets);
-    fill(lengths, periods);
-    schedule.links as u64
-}
-
-// 1 comes first, so that a list that cannot hold a schedule is told before the file is read.
+// Both lists are filled whole: what stood past the links is no part of a schedule. 1 comes first, so that a list that cannot hold a schedule is told before the
+// file is read.
 pub fn read_schedule(file: &[u8], offsets: &mut [u16], periods: &mut [u16]) -> u64
     ensures { λ r. ⌜ (told r, now (offsets .exit), now (periods .exit))
         ≡ scheduleReadFrom (now (file .entry)) (now (offsets .entry)) (now (periods .entry)) ⌝ }
@@ -55,16 +30,22 @@ pub fn read_schedule(file: &[u8], offsets: &mut [u16], periods: &mut [u16]) -> u
     if periods.len() != 63 {
         return refusal(1, 0);
     }
-    let read = schedule_reader::read_schedule(file);
+    let mut starts = [0u16; 63];
+    let mut lengths = [0u16; 63];
+    let read = schedule_reader::read_lists(file, &mut starts, &mut lengths);
     let verdict = read.verdict;
     match verdict {
-        Verdict::Accepted => given(read.schedule, offsets, periods),
+        Verdict::Accepted => {
+            fill(&starts, offsets);
+            fill(&lengths, periods);
+            read.links as u64
+        }
         Verdict::Refused(number, place) => refusal(number, place),
     }
 }
 
 // The lists are judged by check 14 of a schedule, since a host may have made them.
-pub fn write_schedule(links: u8, offsets: &[u16], periods: &[u16], out: &mut [u8]) -> u64
+pub fn write_schedule<'a>(links: u8, offsets: &'a [u16], periods: &'a [u16], out: &mut [u8]) -> u64
     ensures { λ r. ⌜ (told r, now (out .exit))
         ≡ scheduleWrittenFrom links (now (offsets .entry)) (now (periods .entry)) (now (out .entry)) ⌝ }
 {
@@ -74,12 +55,7 @@ pub fn write_schedule(links: u8, offsets: &[u16], periods: &[u16], out: &mut [u8
     if periods.len() != 63 {
         return refusal(1, 0);
     }
-    let schedule = Schedule {
-        links,
-        offsets: entries_of(offsets),
-        periods: entries_of(periods),
-    };
-    host_answers::size(schedule_writer::write_schedule_of(schedule, out))
+    host_answers::size(schedule_writer::write_lists(links, offsets, periods, out))
 }
 
 // 01 wants the slot rule by itself, for those who have neither a plan nor flows.

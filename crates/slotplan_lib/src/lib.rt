@@ -38,10 +38,10 @@ pub extern "C" fn slotplan_read_schedule(
 
 // 02, U1: the way back, with the check 14 of a schedule.
 #[no_mangle]
-pub extern "C" fn slotplan_write_schedule(
+pub extern "C" fn slotplan_write_schedule<'a>(
     links: u8,
-    offsets: &[u16],
-    periods: &[u16],
+    offsets: &'a [u16],
+    periods: &'a [u16],
     out: &mut [u8],
 ) -> u64
     ensures { λ r. ⌜ (told r, now (out .exit))

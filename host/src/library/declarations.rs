@@ -54,9 +54,11 @@ fn types_of_slice(written: &str) -> Vec<String> {
     vec![pointer, "usize".to_string()]
 }
 
-/// The functions with the attribute, with slices as parameters.
+/// The functions with the attribute, with slices as parameters. A lifetime says nothing that a host in C could see.
 fn of_crate(text: &str) -> Option<Vec<Declared>> {
-    let text = without_comments(text, "//", "\n");
+    let text = without_comments(text, "//", "\n")
+        .replace("<'a>", "")
+        .replace("&'a ", "&");
     let functions = text.split("#[no_mangle]").skip(1);
     let declared = functions.map(|function| {
         let function = function.trim_start().strip_prefix("pub extern \"C\" fn ")?;

@@ -25,7 +25,10 @@ refusal-requires c κs = search needs
 
 returns : tie.Need-returns
 unfolding boundFrom
-returns c = c .bound-of .ensures ∙ on-yes _ _ _ (c .before .before .before .read-plan .ensures) _ _ (c .before .enum-told .given .1)
+returns c =
+    let told = c .before .before .before .before .before .before in
+    let read = told .before .before in
+    c .bound-of .ensures (read .read-plan .result .site) ∙ on-yes _ _ _ (read .read-plan .ensures) _ _ (told .enum-told .given .1)
 
 returns-2 : tie.Need-returns-2
 unfolding boundFrom

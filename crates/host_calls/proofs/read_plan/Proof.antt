@@ -24,7 +24,9 @@ refusal-requires c κs = search needs
 
 returns : tie.Need-returns
 unfolding planReadFrom
-returns c = c .sizes .ensures ∙ by-yes _ _ _ _ (read-yes _ _ _ (c .before .before .before .read-plan .ensures) (c .before .enum-told .given .1))
+returns c =
+    let read = c .before .before .before .before .before in
+    c .sizes .ensures (read .read-plan .result .site) ∙ by-yes _ _ _ _ (read-yes _ _ _ (read .read-plan .ensures) (c .before .before .before .enum-told .given .1))
 
 returns-2 : tie.Need-returns-2
 unfolding planReadFrom

@@ -1,7 +1,12 @@
--- Right because the schedule is written where the plan is read to a site, and else the refusal of the reading is told.
+-- Right because the schedule is written where the plan is read to a site, which passes check 14, and else the refusal of the reading is told.
 use borrow.Author.Needs.{needs}
-use mathlib.Core.Path.{_∙_}
+use mathlib.Core.Path.{_∙_, ap}
 use native.Mathlib.Omega.{arith}
+use Rattle.schedule_writer.specs.Write.{scheduleOf}
+use Rattle.site_check.proofs.Laws.Passing.{plain-writing}
+use Rattle.host_answers.specs.Answers.{told}
+use Rattle.host_answers.proofs.Laws.{told-answer}
+use Rattle.host_answers.proofs.Laws.Told.{encoded-room, schedule-few}
 use Rattle.host_calls.specs.Calls.{scheduleFrom}
 use Rattle.host_answers.proofs.Laws.Calls.{read-standing, by-yes, by-no, read-yes, read-no, read-told}
 use Rattle.host_calls.proofs.schedule.Statement.{statement}
@@ -13,11 +18,11 @@ read-plan-requires c κs = search needs
 enum-told : tie.Need-enum-told
 enum-told c = search needs
 
-scheduled-requires : tie.Need-scheduled-requires
-scheduled-requires c κs =
-    let read = c .before .before .before in
-    read-standing _ (λ i. omega (arith, read .before .before .shared-slice-known .given i)) _
-    (read-yes _ _ _ (read .read-plan .ensures) (c .before .enum-told .given .1))
+encode-lists-requires : tie.Need-encode-lists-requires
+encode-lists-requires c κs = search needs
+
+size-requires : tie.Need-size-requires
+size-requires c κs = search needs
 
 enum-known-verdict : tie.Need-enum-known-verdict
 enum-known-verdict c = search needs
@@ -29,10 +34,14 @@ same-length : tie.Need-same-length
 same-length c = search needs
 
 returns : tie.Need-returns
-unfolding scheduleFrom
+unfolding scheduleFrom scheduleOf
 returns c =
-    let told = c .before .before .before .before in
-    c .before .before .scheduled .ensures ∙ by-yes _ _ _ _ (read-yes _ _ _ (told .before .before .read-plan .ensures) (told .enum-told .given .1))
+    let written = c .before .before .before .encode-lists .ensures in
+    let read = c .before .before .before .before .before .before .before .before .before .before in
+    let taken = read-yes _ _ _ (read .read-plan .ensures) (c .before .before .before .before .before .before .before .before .enum-told .given .1) in
+    let sound = read-standing _ (λ i. omega (arith, read .before .before .shared-slice-known .given i)) _ taken in
+    rw (ap told (c .size .ensures) ∙ told-answer _ (encoded-room _ _ _ (schedule-few _) _ _ written))
+    (written ∙ plain-writing (read .read-plan .result .site) _ _ sound ∙ by-yes _ _ _ _ taken)
 
 returns-2 : tie.Need-returns-2
 unfolding scheduleFrom
@@ -48,7 +57,8 @@ schedule-spec =
     (tie.spec
     read-plan-requires
     enum-told
-    scheduled-requires
+    encode-lists-requires
+    size-requires
     enum-known-verdict
     refusal-requires
     same-length

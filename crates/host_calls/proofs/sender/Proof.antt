@@ -33,12 +33,12 @@ refusal-requires c κs = search needs
 returns : tie.Need-returns
 unfolding senderFrom
 returns c =
-    let taken = c .before .before in
-    let read = taken .before .before in
-    let yes = taken .enum-told .given .1 in
+    let read = c .before .before .before .before .before .before .before .before in
+    let site = read .read-plan .result .site in
+    let yes = c .before .before .before .before .before .before .enum-told .given .1 in
     let sound = read-standing _ (λ i. omega (arith, read .before .shared-slice-known .given i)) _ (read-yes _ _ _ (read .read-plan .ensures) yes) in
-    let found = c .before .look-up .ensures in
-    ap told (c .child .ensures) ∙ told-answer _ (rw found (lookup-room _ _ _)) ∙ found ∙ sym (sender-looks _ _ _ sound)
+    let found = c .before .look-up .ensures site in
+    ap told (c .child .ensures) ∙ told-answer _ (rw found (lookup-room site _ _)) ∙ found ∙ sym (sender-looks site _ _ sound)
     ∙ on-yes _ _ _ (read .read-plan .ensures) _ _ yes
 
 returns-2 : tie.Need-returns-2

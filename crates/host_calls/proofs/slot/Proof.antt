@@ -52,14 +52,14 @@ same-length c = search needs
 returns-3 : tie.Need-returns-3
 unfolding slotFrom answered
 returns-3 c =
-    let moved = c .before .before .before in
-    let taken = moved .before .before in
-    let read = taken .before .before in
-    let yes = taken .enum-told .given .1 in
+    let read = c .before .before .before .before .before .before .before .before .before .before .before .before .before .before in
+    let site = read .read-plan .result .site in
+    let moved = c .before .before .before .advance .ensures site in
+    let yes = c .before .before .before .before .before .before .before .before .before .before .before .before .enum-told .given .1 in
     let small = read .before .before .before .before .before in
     let sound = read-standing _ (λ i. omega (arith, small .shared-slice-known .given i)) _ (read-yes _ _ _ (read .read-plan .ensures) yes) in
-    rw (ap told (c .ruled .ensures) ∙ told-valued _ 0 (advanced-tellable _ _ _ _ _ _ _ (moved .advance .ensures)) (omega arith))
-    (ap answered (moved .advance .ensures ∙ sym (slot-advances _ _ _ _ _ sound))
+    rw (ap told (c .ruled .ensures) ∙ told-valued _ 0 (advanced-tellable _ site _ _ _ _ _ moved) (omega arith))
+    (ap answered (moved ∙ sym (slot-advances _ site _ _ _ sound))
     ∙ on-yes _ _ _ (read .read-plan .ensures) _ _ yes ∙ of-length _ _ _ _ (read .before .if2 .left) ∙ of-length _ _ _ _ (read .before .before .if1 .left))
 
 returns-4 : tie.Need-returns-4

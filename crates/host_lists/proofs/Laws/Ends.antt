@@ -1,16 +1,15 @@
 -- One law for each way that a call on lists ends.
 use Prim.Native.Nat.{ℕ, _≤_, _<_, _^_}
-use mathlib.Core.Path.{_≡_, refl, ap}
+use mathlib.Core.Path.{_≡_, refl, sym, ap}
 use mathlib.Core.Bool.{Bool, true, false, not, cond}
 use mathlib.Core.List.{List, [], _∷_}
 use lib.Dec.{eqb, ltb}
 use lib.ListN.{length, getD}
 use borrow.Author.Tests.{ltb-true, ltb-false}
 use native.Mathlib.Omega.{arith}
-use Rattle.rulings.specs.Outcome.{Outcome, accepted, refused, ruling}
+use Rattle.rulings.specs.Outcome.{Outcome, accepted, refused, ruling, given}
 use Rattle.rulings.specs.declared.Verdict.{Verdict}
 use Rattle.rulings.specs.declared.Verdict.the-variants.{Accepted, Refused}
-use Rattle.rulings.proofs.Laws.Outcomes.{else-accepted, else-refused}
 use Rattle.lists.specs.Lists.{smallest}
 use Rattle.lists.proofs.Laws.Search.{last-le}
 use Rattle.pinwheel.specs.Rule.{fits, base, periodsOf, offsetsOf}
@@ -18,21 +17,24 @@ use Rattle.pinwheel.specs.Assign.{firstBad, assigned}
 use Rattle.pinwheel.proofs.Laws.Bases.{smallest-within}
 use Rattle.format.specs.Words.{Bytes}
 use Rattle.schedule_check.specs.declared.Schedule.{Schedule}
-use Rattle.schedule_check.specs.Schedules.{withoutLinks}
-use Rattle.schedule_reader.specs.Read.{withLinks, scheduleRead}
+use Rattle.schedule_check.specs.Words.{Listed}
+use Rattle.schedule_reader.specs.Read.{scheduleRead}
 use Rattle.plan.proofs.Laws.Near.{schedule-near}
+use Rattle.plan.proofs.Laws.Schedules.{schedule-form}
 use Rattle.host_answers.specs.Answers.{told, answerOf}
 use Rattle.host_answers.proofs.Laws.Told.{told-no, Room, value-room, refusal-room}
 
 -- What the reader of schedules answers.
-module _ (bytes : List ℕ) (v : Verdict) (s : Schedule) (e : (ruling v, s) ≡ withLinks (scheduleRead bytes)) where
+module _ (bytes : List ℕ) (v : Verdict) (s : Schedule) (e : given (ruling v) s ≡ scheduleRead bytes) where
   pub schedule-yes : v ≡ Accepted → scheduleRead bytes ≡ accepted s
-  unfolding withLinks
-  schedule-yes q = else-accepted withoutLinks (scheduleRead bytes) s (rw q at e)
+  schedule-yes q = sym (rw q at e)
 
   pub schedule-no : (number place : ℕ) → v ≡ Refused number place → scheduleRead bytes ≡ refused number place
-  unfolding withLinks
-  schedule-no number place q = else-refused withoutLinks (scheduleRead bytes) s number place (rw q at e)
+  schedule-no number place q = sym (rw q at e)
+
+  -- A schedule that was read has lists of 63 entries.
+  pub schedule-listed : Bytes bytes → v ≡ Accepted → Listed s
+  schedule-listed small q = schedule-form bytes small s (schedule-yes q) .listed
 
   -- The refusal of a reading, as an answer.
   pub schedule-told : Bytes bytes → (number place answer : ℕ) → v ≡ Refused number place → answer ≡ answerOf (refused number place) → told answer ≡ refused number place

@@ -8,10 +8,10 @@ use Rattle.host_lists.proofs.fill.Statement.{statement}
 use Rattle.host_lists.proofs.fill.Tie as tie
 
 abbrev Inv-loop : tie.InvT-loop
-Inv-loop list₀ entries i₀ list i = Filled 0 0 (λ x. x) entries i list
+Inv-loop entries list₀ i₀ list i = Filled 0 0 (λ x. x) entries i list
 
 abbrev μ-loop : tie.MeasureT-loop
-μ-loop list₀ entries i₀ list i = 63 - i
+μ-loop entries list₀ i₀ list i = 63 - i
 
 loop-holds : tie.Need-loop-holds Inv-loop μ-loop
 loop-holds c = filled-start _ _ _ _ _ (search needs)
@@ -19,14 +19,14 @@ loop-holds c = filled-start _ _ _ _ _ (search needs)
 mul-list : tie.Need-mul-list Inv-loop μ-loop
 mul-list c = search needs
 
-array-read-list : tie.Need-array-read-list Inv-loop μ-loop
-array-read-list c = search needs
+element-copy-out-list : tie.Need-element-copy-out-list Inv-loop μ-loop
+element-copy-out-list c = search needs
 
 mul-list-2 : tie.Need-mul-list-2 Inv-loop μ-loop
 mul-list-2 c = search needs
 
 slice-write-list : tie.Need-slice-write-list Inv-loop μ-loop
-slice-write-list c = let long = c .before .loop .inv .long in search needs
+slice-write-list c = let long = c .before .before .loop .inv .long in search needs
 
 add-i : tie.Need-add-i Inv-loop μ-loop
 add-i c = search needs
@@ -35,7 +35,7 @@ loop-less : tie.Need-loop-less Inv-loop μ-loop
 loop-less c = search needs
 
 loop-again : tie.Need-loop-again Inv-loop μ-loop
-loop-again c = filled-more _ _ _ _ _ _ _ (c .before .loop .inv) (search needs) refl
+loop-again c = filled-more _ _ _ _ _ _ _ (c .before .before .loop .inv) (search needs) refl
 
 same-length : tie.Need-same-length Inv-loop μ-loop
 same-length c = let long = c .before .loop .inv .long in search needs
@@ -51,7 +51,7 @@ fill-spec =
     μ-loop
     loop-holds
     mul-list
-    array-read-list
+    element-copy-out-list
     mul-list-2
     slice-write-list
     add-i

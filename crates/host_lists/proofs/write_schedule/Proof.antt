@@ -1,4 +1,4 @@
--- Right because the lists are the entries of the schedule that is handed to the writer.
+-- Right because the writer judges the lists as those of a schedule, behind the tests of their lengths.
 use borrow.Author.Needs.{needs}
 use mathlib.Core.Path.{_∙_, ap}
 use native.Mathlib.Omega.{arith}
@@ -27,14 +27,8 @@ returns-2 c =
     rw (told-no _ _ _ (c .refusal2 .ensures) (omega arith) (omega arith))
     (off-length _ _ _ _ (c .before .if2 .taken) ∙ of-length _ _ _ _ (c .before .before .if1 .left))
 
-entries-of-requires : tie.Need-entries-of-requires
-entries-of-requires c κs = search needs
-
-entries-of-requires-2 : tie.Need-entries-of-requires-2
-entries-of-requires-2 c κs = search needs
-
-write-schedule-of-requires : tie.Need-write-schedule-of-requires
-write-schedule-of-requires c κs = search needs
+write-lists-requires : tie.Need-write-lists-requires
+write-lists-requires c κs = search needs
 
 size-requires : tie.Need-size-requires
 size-requires c κs = search needs
@@ -45,12 +39,11 @@ same-length c = search needs
 returns-3 : tie.Need-returns-3
 unfolding scheduleWrittenFrom
 returns-3 c =
-    let written = c .before .before .before in
-    let entries = written .before .before in
-    let room = handed-room _ _ _ (λ e. schedule-few _ (passes-listed _ .0 e .few)) _ _ (written .write-schedule-of .ensures) in
+    let wrote = c .before .before .before in
+    let long = wrote .before .before in
+    let room = handed-room _ _ _ (λ e. schedule-few _ (passes-listed _ .0 e .few)) _ _ (wrote .write-lists .ensures) in
     rw (ap told (c .size .ensures) ∙ told-answer _ room)
-    (rw (entries .before .entries-of .ensures, entries .entries-of2 .ensures) at (written .write-schedule-of .ensures)
-    ∙ of-length _ _ _ _ (entries .before .before .if2 .left) ∙ of-length _ _ _ _ (entries .before .before .before .if1 .left))
+    (wrote .write-lists .ensures ∙ of-length _ _ _ _ (long .if2 .left) ∙ of-length _ _ _ _ (long .before .if1 .left))
 
 pub write-schedule-spec : {M : Type 1} → statement M
 write-schedule-spec =
@@ -60,9 +53,7 @@ write-schedule-spec =
     returns
     refusal-requires-2
     returns-2
-    entries-of-requires
-    entries-of-requires-2
-    write-schedule-of-requires
+    write-lists-requires
     size-requires
     same-length
     returns-3)
