@@ -1,7 +1,32 @@
--- The contracts themselves, as the checker reads them, give the equations that claims cite, with all memory lent: of `loads`, and of each exported function
--- of the library. `a` holds what is handed in, in the order of the parameters, and `x` what is lent as the call leaves it. A contract that says less gives
+-- The contracts themselves, as the checker reads them, give the equations that claims cite, with all memory lent: of the operations of 01 and 02, of `loads`, of
+-- the reading that fills in loads, and of each exported function of the library. `a` holds what is handed in, in the order of the parameters, and `x` what is lent as the call leaves it. A contract that says less gives
 -- its law no more.
 use mathlib.Core.Path.{_≡_}
+use Rattle.rulings.specs.Outcome.{ruling, settled}
+use Rattle.judgement.specs.Judge.{withSite}
+use Rattle.plan_reader.specs.Read.{readOf}
+use Rattle.slices.specs.Written.{writing}
+use Rattle.site_check.specs.Check.{writtenIf}
+use Rattle.plan_writer.specs.Write.{planBytes}
+use Rattle.schedule_check.specs.Schedules.{ofLists}
+use Rattle.schedule_reader.specs.Read.{withLinks, scheduleRead}
+use Rattle.schedule_writer.specs.Write.{scheduleOf, scheduleBytes, scheduleWritten}
+use Rattle.admission.specs.Calls.{admitOf, releaseOf}
+use Rattle.sender.specs.Sender.{found, senderOf}
+use Rattle.moves.specs.Hops.{own}
+use Rattle.simulation.specs.Slot.{slotOf, startOf}
+use Rattle.plan_reader.proofs.read_with.Reads as readings
+use Rattle.plan_reader.proofs.read_plan.Reads as plans
+use Rattle.plan_writer.proofs.write_plan.Reads as written-plans
+use Rattle.schedule_reader.proofs.read_schedule.Reads as read-schedules
+use Rattle.schedule_writer.proofs.write_schedule.Reads as site-schedules
+use Rattle.schedule_writer.proofs.write_schedule_of.Reads as value-schedules
+use Rattle.schedule_writer.proofs.write_lists.Reads as listed-schedules
+use Rattle.admission.proofs.admit.Reads as admissions
+use Rattle.admission.proofs.release.Reads as departures
+use Rattle.sender.proofs.sender.Reads as lookups
+use Rattle.simulation.proofs.start.Reads as begun
+use Rattle.simulation.proofs.slot.Reads as moved
 use Rattle.pinwheel.specs.Assign.{assigned}
 use Rattle.reservations.specs.Reservations.{loadsOf}
 use Rattle.host_answers.specs.Answers.{told}
@@ -20,6 +45,49 @@ use Rattle.slotplan_lib.proofs.slotplan_slot.Reads as slots
 use Rattle.slotplan_lib.proofs.slotplan_sender.Reads as senders
 use Rattle.slotplan_lib.proofs.slotplan_bound.Reads as bounds
 use Rattle.slotplan_lib.proofs.slotplan_assign.Reads as assigns
+
+pub plan-reading : (κs : _) (a : _) (r : _) (x : _) → plans.Post κs a r x → (ruling (r .verdict), r .site) ≡ withSite (readOf (a .0 .now))
+plan-reading κs a r x p = p
+
+pub loads-reading : (κs : _) (a : _) (r : _) (x : _) → readings.Post κs a r x
+    → ((ruling (r .verdict), r .site) ≡ withSite (readOf (a .0 .now))) × (x .1 .0 .now ≡ settled (ruling (r .verdict)) (loadsOf (r .site)) (a .1 .0 .now))
+loads-reading κs a r x p = p
+
+pub plan-writing : (κs : _) (a : _) (r : _) (x : _) → written-plans.Post κs a r x
+    → (writing r, x .1 .0 .now) ≡ writtenIf (a .0) (planBytes (a .0)) (a .1 .0 .now)
+plan-writing κs a r x p = p
+
+pub schedule-reading : (κs : _) (a : _) (r : _) (x : _) → read-schedules.Post κs a r x → (ruling (r .verdict), r .schedule) ≡ withLinks (scheduleRead (a .0 .now))
+schedule-reading κs a r x p = p
+
+pub schedule-writing : (κs : _) (a : _) (r : _) (x : _) → site-schedules.Post κs a r x
+    → (writing r, x .1 .0 .now) ≡ writtenIf (a .0) (scheduleBytes (scheduleOf (a .0))) (a .1 .0 .now)
+schedule-writing κs a r x p = p
+
+pub value-writing : (κs : _) (a : _) (r : _) (x : _) → value-schedules.Post κs a r x → (writing r, x .1 .0 .now) ≡ scheduleWritten (a .0) (a .1 .0 .now)
+value-writing κs a r x p = p
+
+pub lists-writing : (κs : _) (a : _) (r : _) (x : _) → listed-schedules.Post κs a r x
+    → (writing r, x .1 .1 .1 .0 .now) ≡ scheduleWritten (ofLists (a .0) (a .1 .0 .now) (a .1 .1 .0 .now)) (a .1 .1 .1 .0 .now)
+lists-writing κs a r x p = p
+
+pub admitting : (κs : _) (a : _) (r : _) (x : _) → admissions.Post κs a r x
+    → (ruling (r .verdict), r .site, x .1 .0 .now) ≡ admitOf (a .0) (a .1 .0 .now) (a .1 .1 .0)
+admitting κs a r x p = p
+
+pub releasing : (κs : _) (a : _) (r : _) (x : _) → departures.Post κs a r x
+    → (ruling (r .verdict), r .site, x .1 .0 .now) ≡ releaseOf (a .0) (a .1 .0 .now) (a .1 .1 .0)
+releasing κs a r x p = p
+
+pub looking-up : (κs : _) (a : _) (r : _) (x : _) → lookups.Post κs a r x → found r ≡ senderOf (a .0) (a .1 .0) (a .1 .1 .0)
+looking-up κs a r x p = p
+
+pub starting : (κs : _) (a : _) (r : _) (x : _) → begun.Post κs a r x → (ruling r, x .1 .0 .now) ≡ startOf (a .0) (a .1 .0 .now)
+starting κs a r x p = p
+
+pub one-slot : (κs : _) (a : _) (r : _) (x : _) → moved.Post κs a r x
+    → (ruling r, x .1 .0 .now) ≡ slotOf own (a .0) (a .1 .0 .now) (a .1 .1 .0 .now) (a .1 .1 .1 .0)
+one-slot κs a r x p = p
 
 pub loads-contract : (κs : _) (a : _) (r : _) (x : _) → loads.Post κs a r x → r ≡ loadsOf (a .0)
 loads-contract κs a r x p = p
