@@ -1,1 +1,1 @@
-// What the functions for hosts promise, tied to the definitions that claims cite; there is nothing to call.
+// What the operations and the functions for hosts promise, tied to the definitions that claims cite; there is nothing to call.
