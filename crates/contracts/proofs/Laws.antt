@@ -1,6 +1,6 @@
--- The contracts themselves, as the checker reads them, give the equations that claims cite, with all memory lent: of the operations of 01 and 02, of `loads`, of
--- the reading that fills in loads, and of each exported function of the library. `a` holds what is handed in, in the order of the parameters, and `x` what is lent as the call leaves it. A contract that says less gives
--- its law no more.
+-- The contracts themselves, as the checker reads them, give the equations that claims cite, with all memory lent: of the operations of 01 and 02, of `loads`,
+-- of the reading that fills in loads, and of each exported function of the library. `a` holds what is handed in, in the order of the parameters, and `x` what
+-- is lent as the call leaves it. A contract that says less gives its law no more.
 use mathlib.Core.Path.{_≡_}
 use Rattle.rulings.specs.Outcome.{ruling, settled}
 use Rattle.judgement.specs.Judge.{withSite}
