@@ -27,7 +27,7 @@ use Rattle.admission.proofs.release.Reads as departures
 use Rattle.sender.proofs.sender.Reads as lookups
 use Rattle.simulation.proofs.start.Reads as begun
 use Rattle.simulation.proofs.slot.Reads as moved
-use Rattle.pinwheel.specs.Assign.{assigned}
+use Rattle.slot_rule.specs.Assign.{assigned}
 use Rattle.reservations.specs.Reservations.{loadsOf}
 use Rattle.host_answers.specs.Answers.{told}
 use Rattle.host_calls.specs.Calls.{planReadFrom, scheduleFrom, startFrom, slotFrom, senderFrom, boundFrom}

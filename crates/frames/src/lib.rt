@@ -4,7 +4,7 @@ use site::Site;
 ghost use mathlib.Core.Path.{_≡_};
 ghost use Prim.Native.Nat.{max};
 ghost use Rattle.text.specs.Put.{puts};
-ghost use Rattle.pinwheel.specs.Rule.{sends};
+ghost use Rattle.slot_rule.specs.Rule.{sends};
 ghost use Rattle.schedule.specs.Schedule.{linkSends};
 ghost use Rattle.frames.specs.Marks.{frameOf, mark, marks, idle, idleCount};
 

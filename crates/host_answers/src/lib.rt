@@ -6,7 +6,7 @@ use slices::Written;
 ghost use mathlib.Core.Path.{_≡_};
 ghost use Prim.Native.Nat.{_+_, _*_};
 ghost use Rattle.rulings.specs.Outcome.{accepted, refused, ruling};
-ghost use Rattle.pinwheel.specs.Assign.{outcome};
+ghost use Rattle.pinwheel.specs.Answers.{outcome};
 ghost use Rattle.site.specs.declared.Site.{Site};
 ghost use Rattle.site.specs.Sites.{ofLists, withStates, flowCount};
 ghost use Rattle.reservations.specs.Reservations.{delayBound};

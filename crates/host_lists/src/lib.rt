@@ -3,7 +3,7 @@ use host_answers::refusal;
 use rulings::Verdict;
 ghost use mathlib.Core.Path.{_≡_};
 ghost use lib.ListN.{length};
-ghost use Rattle.pinwheel.specs.Assign.{assigned};
+ghost use Rattle.slot_rule.specs.Assign.{assigned};
 ghost use Rattle.host_answers.specs.Answers.{told};
 ghost use Rattle.host_lists.specs.Lists.{scheduleReadFrom, scheduleWrittenFrom};
 

@@ -1,4 +1,2 @@
-pub mod Rule
-pub mod Words
+pub mod Answers
 pub mod Inner
-pub mod Assign

@@ -1,31 +1,16 @@
-// The slot rule: from the gaps wanted by the children of one parent it assigns their periods and offsets. It knows no plans, bytes or flows. Its 14 functions
-// are one subject, which rule 5 holds together: offsets are searched among the periods that the base gives.
-mod bases;
+// The slot rule: from the gaps wanted by the children of one parent it assigns their periods and offsets. It knows no plans, bytes or flows.
 mod offsets;
 mod periods;
 
 ghost use mathlib.Core.Path.{_≡_};
-ghost use Rattle.pinwheel.specs.Assign.{outcome, assigned, firstBad};
-ghost use Rattle.pinwheel.specs.Rule.{sends};
+ghost use Rattle.slot_rule.specs.Assign.{assigned};
+ghost use Rattle.pinwheel.specs.Answers.{outcome};
+ghost use Rattle.slot_rule.specs.Rule.{sends};
 
 // The base, which a plan's report prints, or the number and the place of a refusal.
 pub enum Answer {
     Base(u16),
     Refused(u8, usize),
-}
-
-// The index of the first gap outside 1 to 1,024, or the number of gaps.
-fn first_bad(gaps: &[u16]) -> usize
-    ensures { λ r. ⌜ r ≡ firstBad (now (gaps .entry)) ⌝ }
-{
-    let mut i = 0;
-    while i < gaps.len() {
-        if gaps[i] == 0 || 1024 < gaps[i] {
-            return i;
-        }
-        i += 1;
-    }
-    i
 }
 
 // Fills both lists, which are as long as the gaps, and answers the base. Nothing is written before the last check has passed.
@@ -46,11 +31,11 @@ pub fn assign(gaps: &[u16], offsets: &mut [u16], periods: &mut [u16]) -> Answer
     if 63 < n {
         return Answer::Refused(5, 0);
     }
-    let bad = first_bad(gaps);
+    let bad = bases::first_bad(gaps);
     if bad < n {
         return Answer::Refused(5, bad);
     }
-    let base = bases::largest_fitting(gaps, 2);
+    let base = bases::base_of(gaps, 2);
     if base == 0 {
         return Answer::Refused(11, 0);
     }

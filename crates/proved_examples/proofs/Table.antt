@@ -3,9 +3,9 @@ use mathlib.Core.Path.{refl}
 use Rattle.rulings.specs.Outcome.{checked, settled, orElse}
 use Rattle.lists.specs.Search.{last, first, any}
 use Rattle.lists.specs.Lists.{total, largest, least, smallest, joined, listed, sumTo, same}
-use Rattle.pinwheel.specs.Rule.{exponent, period, sum, limit, fits, base, periodsOf, sends, earlier, taken, freeOffset, turn, level, levels, offsetsFor}
-use Rattle.pinwheel.specs.Rule.{offsetsOf}
-use Rattle.pinwheel.specs.Assign.{badGap, firstBad, assigned}
+use Rattle.slot_rule.specs.Rule.{exponent, period, sum, limit, fits, base, periodsOf, sends, earlier, taken, freeOffset, turn, level, levels, offsetsFor}
+use Rattle.slot_rule.specs.Rule.{offsetsOf}
+use Rattle.slot_rule.specs.Assign.{badGap, firstBad, assigned}
 use Rattle.tree.specs.Tree.{ofLink, up, depthIn, depthOf, climb, route, has}
 use Rattle.site.specs.Sites.{live, withFlow, withSchedule, used, flowCount}
 use Rattle.schedule.specs.Schedule.{gapsFrom, gapsUnder, rank, assignedUnder, baseOf, baseUnder, crowded, firstCrowded, entryAssigned, offsetsAssigned, periodsAssigned}

@@ -6,7 +6,7 @@ use mathlib.Core.List.{List, [], _∷_, _++_}
 use lib.ListN.{length, replicate}
 use Prim.Native.String.{String}
 use Rattle.rulings.specs.Outcome.{Outcome, Ruling, accepted, refused}
-use Rattle.pinwheel.specs.Assign.{assigned}
+use Rattle.slot_rule.specs.Assign.{assigned}
 use Rattle.site.specs.declared.Site.{Site}
 use Rattle.site.specs.declared.Flow.{Flow}
 use Rattle.site.specs.Sites.{emptySite}

@@ -10,12 +10,12 @@ use mathlib.Core.Logic.{_⊎_, inl, inr}
 use mathlib.Core.List.{List}
 use lib.ListN.{length, getD}
 use native.Mathlib.Omega.{arith}
-use Rattle.pinwheel.specs.Rule.{base}
-use Rattle.pinwheel.specs.Words.{Once}
-use Rattle.pinwheel.proofs.Laws.{period-largest, never-together, once-a-period}
+use Rattle.slot_rule.specs.Rule.{base}
+use Rattle.slot_rule.specs.Words.{Once}
+use Rattle.slot_rule.proofs.Laws.{period-largest, never-together, once-a-period}
 use Rattle.lists.proofs.Laws.Search.{lt-or-le}
-use Rattle.pinwheel.proofs.Laws.Bases.{smallest-within, base-fits}
-use Rattle.pinwheel.proofs.Laws.Room.{period-at, base-harmonic}
+use Rattle.slot_rule.proofs.Laws.Bases.{smallest-within, base-fits}
+use Rattle.slot_rule.proofs.Laws.Room.{period-at, base-harmonic}
 use Rattle.site.specs.declared.Site.{Site}
 use Rattle.tree.specs.Tree.{ofLink}
 use Rattle.site.specs.Sites.{used}

@@ -5,9 +5,9 @@ use mathlib.Core.List.{List, [], _∷_}
 use lib.Dec.{eqb, ltb, leb}
 use lib.ListN.{length, getD, replicate}
 use Rattle.lists.specs.Search.{first}
-use Rattle.pinwheel.specs.Rule.{sends}
+use Rattle.slot_rule.specs.Rule.{sends}
 use Rattle.rulings.specs.Outcome.{Outcome, accepted, refused}
-use Rattle.pinwheel.specs.Assign.{assigned}
+use Rattle.slot_rule.specs.Assign.{assigned}
 use Rattle.site.specs.declared.Site.{Site}
 use Rattle.site.specs.Sites.{used, withSchedule}
 use Rattle.tree.specs.Tree.{ofLink}

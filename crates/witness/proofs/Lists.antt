@@ -7,9 +7,9 @@ use native.Mathlib.Omega.{arith}
 use Rattle.rulings.specs.Outcome.{accepted, checked, settled}
 use Rattle.lists.specs.Search.{last, first, any}
 use Rattle.lists.specs.Lists.{total, largest, least, smallest, joined, sumTo, listed, same}
-use Rattle.pinwheel.specs.Rule.{exponent, period, sum, limit, fits, base, periodsOf, sends, earlier, taken, freeOffset, turn, level, levels, offsetsFor}
-use Rattle.pinwheel.specs.Rule.{offsetsOf}
-use Rattle.pinwheel.specs.Assign.{badGap, firstBad, assigned}
+use Rattle.slot_rule.specs.Rule.{exponent, period, sum, limit, fits, base, periodsOf, sends, earlier, taken, freeOffset, turn, level, levels, offsetsFor}
+use Rattle.slot_rule.specs.Rule.{offsetsOf}
+use Rattle.slot_rule.specs.Assign.{badGap, firstBad, assigned}
 use Rattle.site.specs.Sites.{used, live, withFlow, withoutFlow, withSchedule}
 use Rattle.tree.specs.Tree.{ofLink, up, depthIn, depthOf, climb, route, has}
 use Rattle.reservations.specs.Reservations.{periodsJudged, routeOf, widthAt, widthOn, load, over, firstOver, unfit, firstUnfit, along, late, firstLate}

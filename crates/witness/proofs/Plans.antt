@@ -6,9 +6,9 @@ use native.Mathlib.Omega.{arith}
 use Rattle.rulings.specs.Outcome.{accepted, refused, orElse}
 use Rattle.lists.specs.Search.{last, first, any}
 use Rattle.lists.specs.Lists.{total, largest, least, smallest, sumTo, listed}
-use Rattle.pinwheel.specs.Rule.{exponent, period, sum, limit, fits, base, periodsOf, sends, earlier, taken, freeOffset, turn, level, levels, offsetsFor}
-use Rattle.pinwheel.specs.Rule.{offsetsOf}
-use Rattle.pinwheel.specs.Assign.{badGap, firstBad, assigned}
+use Rattle.slot_rule.specs.Rule.{exponent, period, sum, limit, fits, base, periodsOf, sends, earlier, taken, freeOffset, turn, level, levels, offsetsFor}
+use Rattle.slot_rule.specs.Rule.{offsetsOf}
+use Rattle.slot_rule.specs.Assign.{badGap, firstBad, assigned}
 use Rattle.rulings.proofs.Laws.Outcomes.{refused-not}
 use Rattle.site.specs.declared.Site.{Site}
 use Rattle.site.specs.Sites.{used, live, withFlow, withSchedule}

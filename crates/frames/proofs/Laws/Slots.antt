@@ -10,7 +10,7 @@ use native.Mathlib.Numerals.{add-one}
 use native.Mathlib.Omega.{arith}
 use Rattle.lists.specs.Search.{any}
 use Rattle.lists.specs.Lists.{largest, sumTo}
-use Rattle.pinwheel.specs.Rule.{sends}
+use Rattle.slot_rule.specs.Rule.{sends}
 use Rattle.lists.proofs.Laws.Search.{any-hit, any-miss, any-end}
 use Rattle.lists.proofs.Laws.Items.{joined-same, joined-none}
 use Rattle.site.specs.declared.Site.{Site}

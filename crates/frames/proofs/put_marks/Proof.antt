@@ -4,7 +4,7 @@ use Prim.Native.Nat.{_≤_, _-_}
 use mathlib.Core.Path.{sym, _∙_}
 use mathlib.Core.Logic.{inl, inr}
 use native.Mathlib.Omega.{arith}
-use Rattle.pinwheel.specs.Rule.{sends}
+use Rattle.slot_rule.specs.Rule.{sends}
 use Rattle.report_lines.proofs.Laws.Lines.{Printed, printed-start, printed-line, printed-none, printed-all, printed-long}
 use Rattle.frames.specs.Marks.{markIf, marks}
 use Rattle.frames.proofs.Laws.Slots.{mark-here, mark-none}

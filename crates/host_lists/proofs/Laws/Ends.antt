@@ -12,9 +12,9 @@ use Rattle.rulings.specs.declared.Verdict.{Verdict}
 use Rattle.rulings.specs.declared.Verdict.the-variants.{Accepted, Refused}
 use Rattle.lists.specs.Lists.{smallest}
 use Rattle.lists.proofs.Laws.Search.{last-le}
-use Rattle.pinwheel.specs.Rule.{fits, base, periodsOf, offsetsOf}
-use Rattle.pinwheel.specs.Assign.{firstBad, assigned}
-use Rattle.pinwheel.proofs.Laws.Bases.{smallest-within}
+use Rattle.slot_rule.specs.Rule.{fits, base, periodsOf, offsetsOf}
+use Rattle.slot_rule.specs.Assign.{firstBad, assigned}
+use Rattle.slot_rule.proofs.Laws.Bases.{smallest-within}
 use Rattle.format.specs.Words.{Bytes}
 use Rattle.schedule_check.specs.declared.Schedule.{Schedule}
 use Rattle.schedule_check.specs.Words.{Listed}

@@ -12,7 +12,7 @@ use native.Mathlib.Nat.{mul-zero}
 use native.Mathlib.Numerals.{add-one}
 use native.Mathlib.Omega.{arith}
 use Rattle.lists.specs.Lists.{total, joined}
-use Rattle.pinwheel.specs.Rule.{sends}
+use Rattle.slot_rule.specs.Rule.{sends}
 use Rattle.lists.proofs.Laws.Search.{lt-or-le}
 use Rattle.lists.proofs.Laws.Items.{joined-more}
 use Rattle.lists.proofs.Laws.Listed.{getD-replicated}

@@ -1,8 +1,8 @@
 -- Right because the slot's remainder by the period is compared with the offset, and a remainder by 0 is the slot itself.
 use borrow.Author.Needs.{needs}
 use mathlib.Core.Path.{refl}
-use Rattle.pinwheel.specs.Rule.{sends}
-use Rattle.pinwheel.proofs.Laws.Rows.{sends-never}
+use Rattle.slot_rule.specs.Rule.{sends}
+use Rattle.slot_rule.proofs.Laws.Rows.{sends-never}
 use Rattle.pinwheel.proofs.sends_in.Statement.{statement}
 use Rattle.pinwheel.proofs.sends_in.Tie as tie
 

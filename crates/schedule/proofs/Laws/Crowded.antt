@@ -8,10 +8,10 @@ use lib.Dec.{eqb}
 use lib.ListN.{length}
 use borrow.Author.Tests.{eq-eqb, ne-eqb, eqb-true, eqb-false, not-true}
 use native.Mathlib.Omega.{arith}
-use Rattle.pinwheel.specs.Rule.{base}
-use Rattle.pinwheel.specs.Words.{SomeFits, NoneFits}
+use Rattle.slot_rule.specs.Rule.{base}
+use Rattle.slot_rule.specs.Words.{SomeFits, NoneFits}
 use Rattle.lists.proofs.Laws.Search.{lt-or-le, first-none, first-found}
-use Rattle.pinwheel.proofs.Laws.Bases.{base-fits, base-none}
+use Rattle.slot_rule.proofs.Laws.Bases.{base-fits, base-none}
 use Rattle.site.specs.declared.Site.{Site}
 use Rattle.site.specs.Sites.{used}
 use Rattle.schedule.specs.Schedule.{gapsUnder, crowded, firstCrowded}

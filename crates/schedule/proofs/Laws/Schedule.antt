@@ -13,11 +13,11 @@ use native.Mathlib.Decide.{ℕ-discrete}
 use native.Mathlib.Nat.{eq-or-lt-of-le, suc-add, zero-add, add-zero}
 use native.Mathlib.Numerals.{add-one}
 use native.Mathlib.Omega.{arith}
-use Rattle.pinwheel.specs.Rule.{base, periodsOf, offsetsOf}
+use Rattle.slot_rule.specs.Rule.{base, periodsOf, offsetsOf}
 use Rattle.rulings.specs.Outcome.{Outcome, accepted, refused}
-use Rattle.pinwheel.specs.Assign.{assigned}
-use Rattle.pinwheel.specs.Words.{InLimits}
-use Rattle.pinwheel.proofs.Laws.Checks.{good-assigned}
+use Rattle.slot_rule.specs.Assign.{assigned}
+use Rattle.slot_rule.specs.Words.{InLimits}
+use Rattle.slot_rule.proofs.Laws.Checks.{good-assigned}
 use Rattle.lists.proofs.Laws.Search.{lt-or-le, first-is, first-skip, first-end}
 use Rattle.site.specs.declared.Site.{Site}
 use Rattle.site.specs.Sites.{used}

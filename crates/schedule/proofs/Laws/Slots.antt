@@ -8,10 +8,10 @@ use lib.Dec.{ltb, leb, eqb}
 use lib.ListN.{length, getD}
 use borrow.Author.Tests.{lt-ltb, le-leb, eq-eqb, ltb-true, leb-true}
 use native.Mathlib.Omega.{arith}
-use Rattle.pinwheel.specs.Rule.{base, periodsOf, offsetsOf}
-use Rattle.pinwheel.specs.Words.{SendsIn}
-use Rattle.pinwheel.proofs.Laws.{sends-when}
-use Rattle.pinwheel.proofs.Laws.Room.{periods-long}
+use Rattle.slot_rule.specs.Rule.{base, periodsOf, offsetsOf}
+use Rattle.slot_rule.specs.Words.{SendsIn}
+use Rattle.slot_rule.proofs.Laws.{sends-when}
+use Rattle.slot_rule.proofs.Laws.Room.{periods-long}
 use Rattle.site.specs.declared.Site.{Site}
 use Rattle.tree.specs.Tree.{ofLink, has}
 use Rattle.site.specs.Sites.{used}

@@ -7,7 +7,7 @@ use borrow.Author.Tests.{lt-ltb, le-ltb, le-leb, eq-eqb, ne-eqb}
 use native.Mathlib.Omega.{arith}
 use Rattle.rulings.specs.Outcome.{Outcome, accepted, refused}
 use Rattle.lists.specs.Search.{last}
-use Rattle.pinwheel.specs.Rule.{sends}
+use Rattle.slot_rule.specs.Rule.{sends}
 use Rattle.lists.proofs.Laws.Search.{last-hit, last-miss}
 use Rattle.site.specs.declared.Site.{Site}
 use Rattle.site.specs.Sites.{used}

@@ -7,7 +7,7 @@ use lib.ListN.{length, getD}
 use native.Mathlib.Omega.{arith}
 use Rattle.rulings.specs.Outcome.{Outcome, accepted, refused}
 use Rattle.lists.specs.Lists.{joined}
-use Rattle.pinwheel.proofs.Laws.Bases.{smallest-within, base-fits}
+use Rattle.slot_rule.proofs.Laws.Bases.{smallest-within, base-fits}
 use Rattle.site.specs.declared.Site.{Site}
 use Rattle.site.specs.Sites.{used, live, flowCount}
 use Rattle.reservations.specs.Reservations.{delayBound}

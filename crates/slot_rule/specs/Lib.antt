@@ -1,0 +1,4 @@
+pub mod Rule
+pub mod Words
+pub mod Inner
+pub mod Assign
