@@ -38,7 +38,7 @@ pub fn put_bound(out: &mut [u8], at: usize, site: Site, number: u8) -> usize
     if !site::is_live(site, number) {
         return slices::put(out, at, b"not live");
     }
-    let bound = reservations::delay_bound(site, number);
+    let bound = bounds::delay_bound(site, number);
     let deadline = site.deadlines[number as usize];
     let bounded = text::put_field(out, at, b"bound ", bound as u64);
     text::put_field(out, bounded, b" deadline ", deadline as u64)

@@ -53,7 +53,7 @@ fn print_flow(site: Site, number: u8, y: u64)
     let entry = site.entries[n];
     let rate = site.rates[n];
     let deadline = site.deadlines[n];
-    let bound = reservations::delay_bound(site, number);
+    let bound = bounds::delay_bound(site, number);
     let mut line = io::buffer();
     let named = put_number(&mut line, 0, number, y);
     let routed = put_way(&mut line, named, &site.parents, entry);

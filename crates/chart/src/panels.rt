@@ -71,7 +71,7 @@ fn print_panel(site: Site, parent: u8, loads: [u32; 63], y: u64) -> u64
 
 pub(crate) fn print_panels(site: Site) {
     let links = site::link_count(site.links);
-    let loads = reservations::loads(site);
+    let loads = link_loads::loads(site);
     let mut y = 84;
     let mut parent = 0;
     while parent <= links {

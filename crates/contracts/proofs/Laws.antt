@@ -33,7 +33,7 @@ use Rattle.host_answers.specs.Answers.{told}
 use Rattle.host_calls.specs.Calls.{planReadFrom, scheduleFrom, startFrom, slotFrom, senderFrom, boundFrom}
 use Rattle.host_changes.specs.Changes.{admitFrom, releaseFrom}
 use Rattle.host_lists.specs.Lists.{scheduleReadFrom, scheduleWrittenFrom}
-use Rattle.reservations.proofs.loads.Reads as loads
+use Rattle.link_loads.proofs.loads.Reads as loads
 use Rattle.slotplan_lib.proofs.slotplan_read_plan.Reads as reads
 use Rattle.slotplan_lib.proofs.slotplan_schedule.Reads as schedules
 use Rattle.slotplan_lib.proofs.slotplan_read_schedule.Reads as files

@@ -82,7 +82,7 @@ pub fn bound_of<'a>(
     match verdict {
         Verdict::Accepted => {
             let entry = entries[number as usize];
-            reservations::sum_along(periods, parents, entry) as u64
+            bounds::sum_along(periods, parents, entry) as u64
         }
         Verdict::Refused(number, place) => refusal(number, place),
     }

@@ -49,7 +49,7 @@ pub fn settle<'a>(
         return Verdict::Refused(11, crowded);
     }
     let mut sums = [0u32; 63];
-    let found = reservations::first_faults(
+    let found = link_loads::first_faults(
         links,
         parents,
         capacities,

@@ -110,7 +110,7 @@ fn put_flows(out: &mut [u8], at: usize, site: Site) -> usize
     let mut n = 0;
     while n < 64 {
         if site.states[n] == 1 {
-            let bound = reservations::delay_bound(site, n as u8);
+            let bound = bounds::delay_bound(site, n as u8);
             taken = put_flow(
                 out,
                 taken,

@@ -2,9 +2,9 @@
 use borrow.Author.Tests.{lt-ltb, le-ltb}
 use Prim.Native.Nat.{_≤_, _<_}
 use native.Mathlib.Omega.{arith}
 use Rattle.reservations.specs.Inner.{foundWith}
-use Rattle.reservations.proofs.first_late.Statement.{statement}
-use Rattle.reservations.proofs.first_late.Tie as tie
+use Rattle.bounds.proofs.first_late.Statement.{statement}
+use Rattle.bounds.proofs.first_late.Tie as tie
 
 returns : tie.Need-returns
 unfolding foundWith

@@ -3,11 +3,11 @@
 use borrow.Author.Needs.{needs}
 use Prim.Native.Nat.{_*_, _≤_}
 use native.Mathlib.Omega.{arith}
 use Rattle.reservations.proofs.Laws.Reservations.{Carrying, carrying-start, carrying-more, carrying-end, carrying-within, carrying-le}
 use Rattle.reservations.proofs.Laws.Reservations.{carried-le, width-le, width-at-le}
 use Rattle.reservations.proofs.Laws.Reservations.{Summing, summing-start, summing-more, summing-end}
-use Rattle.reservations.proofs.add_widths.Statement.{statement}
-use Rattle.reservations.proofs.add_widths.Tie as tie
+use Rattle.link_loads.proofs.add_widths.Statement.{statement}
+use Rattle.link_loads.proofs.add_widths.Tie as tie
 
 abbrev Inv-loop : tie.InvT-loop
 Inv-loop periods parents entry rate loads₀ sum₀ node₀ loads sum node =

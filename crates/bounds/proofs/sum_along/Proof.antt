@@ -2,9 +2,9 @@
 -- falls.
 use borrow.Author.Needs.{needs}
 use native.Mathlib.Omega.{arith}
 use Rattle.reservations.proofs.Laws.Reservations.{Summing, summing-start, summing-more, summing-end}
-use Rattle.reservations.proofs.sum_along.Statement.{statement}
-use Rattle.reservations.proofs.sum_along.Tie as tie
+use Rattle.bounds.proofs.sum_along.Statement.{statement}
+use Rattle.bounds.proofs.sum_along.Tie as tie
 
 abbrev Inv-loop : tie.InvT-loop
 Inv-loop values parents node sum₀ n₀ sum n = Summing values parents node sum n

@@ -6,10 +6,10 @@ use lib.ListN.{length}
 use native.Mathlib.Omega.{arith}
 use Rattle.tree.specs.Tree.{route}
 use Rattle.tree.proofs.Laws.Tree.{up-within}
 use Rattle.reservations.specs.Inner.{firstFull}
 use Rattle.reservations.proofs.Laws.Reservations.{full-end, full-here, full-next, width-le}
-use Rattle.reservations.proofs.first_unfit.Statement.{statement}
-use Rattle.reservations.proofs.first_unfit.Tie as tie
+use Rattle.link_loads.proofs.first_unfit.Statement.{statement}
+use Rattle.link_loads.proofs.first_unfit.Tie as tie
 
 abbrev Inv-loop : tie.InvT-loop
 Inv-loop parents capacities periods loads entry rate link₀ link =

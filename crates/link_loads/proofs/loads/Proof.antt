@@ -1,7 +1,7 @@
 -- Right because the sums are those of every site with these lists, so of this one.
 use borrow.Author.Needs.{needs}
-use Rattle.reservations.proofs.loads.Statement.{statement}
-use Rattle.reservations.proofs.loads.Tie as tie
+use Rattle.link_loads.proofs.loads.Statement.{statement}
+use Rattle.link_loads.proofs.loads.Tie as tie
 
 slice-aggregate-reserve : tie.Need-slice-aggregate-reserve
 slice-aggregate-reserve c = search needs

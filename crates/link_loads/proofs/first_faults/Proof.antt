@@ -8,11 +8,11 @@ use Rattle.lists.specs.Search.{firstIn}
 use Rattle.lists.proofs.Laws.Search.{first-hit, first-miss, first-end}
 use Rattle.site.specs.declared.Site.{Site}
 use Rattle.site.specs.Sites.{used, ofLists}
 use Rattle.reservations.specs.Reservations.{over, firstOver}
 use Rattle.reservations.specs.Inner.{ReservedAs}
 use Rattle.reservations.proofs.Laws.Reservations.{load-in, over-yes, over-no}
-use Rattle.reservations.proofs.first_faults.Statement.{statement}
-use Rattle.reservations.proofs.first_faults.Tie as tie
+use Rattle.link_loads.proofs.first_faults.Statement.{statement}
+use Rattle.link_loads.proofs.first_faults.Tie as tie
 
 abbrev Inv-loop : tie.InvT-loop
 Inv-loop links parents capacities periods states entries rates deadlines loads count sums late i₀ i =

@@ -11,10 +11,10 @@ use Rattle.lists.proofs.Laws.Listed.{getD-replicated}
 use Rattle.site.specs.declared.Site.{Site}
 use Rattle.site.specs.Sites.{emptySite, live, ofLists}
 use Rattle.site.proofs.Laws.Flows.{Left, left-start, left-live, left-idle, left-more, none-left}
 use Rattle.reservations.specs.Reservations.{periodsJudged}
 use Rattle.reservations.proofs.Laws.Reservations.{Judging, judging-start, judging-idle, judging-live, judging-end}
-use Rattle.reservations.proofs.reserve.Statement.{statement}
-use Rattle.reservations.proofs.reserve.Tie as tie
+use Rattle.link_loads.proofs.reserve.Statement.{statement}
+use Rattle.link_loads.proofs.reserve.Tie as tie
 
 abbrev Inv-loop : tie.InvT-loop
 Inv-loop parents periods states entries rates deadlines loads₀ late₀ left₀ n₀ loads late left n =

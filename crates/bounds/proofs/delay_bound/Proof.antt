@@ -3,10 +3,10 @@ use borrow.Author.Needs.{needs}
 use mathlib.Core.Path.{_≡_}
 use lib.ListN.{length}
 use native.Mathlib.Omega.{arith}
 use Rattle.reservations.proofs.Laws.Reservations.{delay-none}
 use Rattle.reservations.specs.Reservations.{delayBound, routeOf}
-use Rattle.reservations.proofs.delay_bound.Statement.{statement}
-use Rattle.reservations.proofs.delay_bound.Tie as tie
+use Rattle.bounds.proofs.delay_bound.Statement.{statement}
+use Rattle.bounds.proofs.delay_bound.Tie as tie
 
 returns : tie.Need-returns
 returns c =
