@@ -18,8 +18,8 @@ use Rattle.site.specs.declared.Site.{Site}
 use Rattle.site.specs.declared.Flow.{Flow}
 use Rattle.site.specs.Sites.{emptySite, live, withFlow, withoutFlow}
 use Rattle.reservations.specs.Reservations.{periodsJudged, routeOf, widthAt, along, delayBound}
-use Rattle.reservations.specs.Words.{HasRoom, RoomAlong, UnfitAt}
-use Rattle.reservations.proofs.Laws.{room-when, unfit-when}
+use Rattle.reservations.specs.Words.{HasRoom, UnfitAt}
+use Rattle.reservations.proofs.Laws.{unfit-when}
 use Rattle.tree.proofs.Laws.Tree.{has-when, route-some}
 use Rattle.site.proofs.Laws.Flows.{live-with}
 use Rattle.limits.specs.Limits.{misplaced, flowLimits}
@@ -30,15 +30,14 @@ use Rattle.limits.proofs.Laws.Forms.{flow-within, flow-good}
 use Rattle.site_check.proofs.Laws.Empty.{empty-passes}
 use Rattle.counters.specs.Blocks.{cellsOf, withCells, zeros}
 use Rattle.counters.proofs.Laws.{length-with, block-same, block-other, length-zeros}
-use Rattle.admission.specs.Calls.{change, routeFor, unfitLink, flowRuling, admitRuling, admitOf, numberRuling, releaseRuling, releaseOf}
+use Rattle.flow_checks.specs.Flows.{routeFor, unfitLink, flowRuling, numberRuling}
+use Rattle.flow_checks.specs.Inner.{flowRulingWith}
+use Rattle.flow_checks.proofs.Laws.{route-room}
+use Rattle.flow_checks.proofs.Laws.Answers.{flow-passes, number-passes}
+use Rattle.admission.specs.Calls.{change, admitRuling, admitOf, releaseRuling, releaseOf}
 use Rattle.admission.specs.Words.{boundFor, Admissible, Releasable, admissionChecks, releaseChecks}
-use Rattle.admission.specs.Inner.{flowRulingWith}
-use Rattle.admission.proofs.Laws.Answers.{flow-passes, number-passes, call-passes}
+use Rattle.admission.proofs.Laws.Answers.{call-passes}
 use Rattle.admission.proofs.Laws.Again.{again-site, again-admissible}
-
--- 17 finds nothing just when the width fits on every link of the route.
-route-room : (s : Site) (f : Flow) → (unfitLink s f ≡ 0) ↔ RoomAlong s (f .rate) (routeFor s f)
-route-room s f = room-when s (f .rate) (routeFor s f) (route-some (s .parents) (f .entry))
 
 -- An admission is accepted just when it is as the words say.
 pub admits-when : (s : Site) (counters : List ℕ) (f : Flow) → (admitRuling s counters f ≡ accepted tt) ↔ Admissible s counters f

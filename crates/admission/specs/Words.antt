@@ -11,8 +11,8 @@ use Rattle.site.specs.Sites.{live}
 use Rattle.reservations.specs.Reservations.{along}
 use Rattle.reservations.specs.Words.{RoomAlong, UnfitAt}
 use Rattle.limits.specs.Words.{FlowGood, flowChecks}
+use Rattle.flow_checks.specs.Flows.{routeFor}
 use Rattle.site_check.specs.Words.{Sound, callChecks}
-use Rattle.admission.specs.Calls.{routeFor}
 
 -- 02, U2: the number that 18 judges, the periods on the route that the flow would have, summed. The law `bound-asked` says that this is G once it is live.
 abbrev pub boundFor : Site → Flow → ℕ

@@ -10,7 +10,7 @@ ghost use Rattle.pinwheel.specs.Answers.{outcome};
 ghost use Rattle.site.specs.declared.Site.{Site};
 ghost use Rattle.site.specs.Sites.{ofLists, withStates, flowCount};
 ghost use Rattle.reservations.specs.Reservations.{delayBound};
-ghost use Rattle.admission.specs.Calls.{numberRuling};
+ghost use Rattle.flow_checks.specs.Flows.{numberRuling};
 ghost use Rattle.sender.specs.Sender.{found};
 ghost use Rattle.slices.specs.Written.{writing};
 ghost use Rattle.host_answers.specs.Answers.{told, answerOf, valued};
@@ -78,7 +78,7 @@ pub fn bound_of<'a>(
         (now (periods .entry)) (now (states .entry)) (now (entries .entry)) (s .rates) (s .deadlines)) number) (delayBound (ofLists (s .links) (now (parents .entry))
         (s .capacities) (s .gaps) (s .offsets) (now (periods .entry)) (now (states .entry)) (now (entries .entry)) (s .rates) (s .deadlines)) number)) ⌝ }
 {
-    let verdict = admission::judge_number(states, number);
+    let verdict = flow_checks::judge_number(states, number);
     match verdict {
         Verdict::Accepted => {
             let entry = entries[number as usize];

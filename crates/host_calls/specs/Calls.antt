@@ -7,7 +7,7 @@ use Rattle.site.specs.Sites.{flowCount}
 use Rattle.plan_reader.specs.Read.{readOf}
 use Rattle.schedule_writer.specs.Write.{scheduleOf, scheduleBytes}
 use Rattle.site_check.specs.Check.{writtenIf}
-use Rattle.admission.specs.Calls.{numberRuling}
+use Rattle.flow_checks.specs.Flows.{numberRuling}
 use Rattle.sender.specs.Sender.{senderOf}
 use Rattle.moves.specs.Hops.{own}
 use Rattle.simulation.specs.Slot.{slotOf, startOf}

@@ -109,7 +109,7 @@ pub fn admit(
                 rate,
                 deadline,
             };
-            let verdict = admission::judge_flow(
+            let verdict = flow_checks::judge_flow(
                 read.site.links,
                 &read.site.parents,
                 &read.site.capacities,
@@ -148,7 +148,7 @@ pub fn release(plan: &[u8], counters: &mut [u32], number: u8, out: &mut [u8]) ->
     let verdict = read.verdict;
     match verdict {
         Verdict::Accepted => {
-            let verdict = admission::judge_number(&read.site.states, number);
+            let verdict = flow_checks::judge_number(&read.site.states, number);
             match verdict {
                 Verdict::Accepted => {
                     dropped(

@@ -22,7 +22,8 @@ use Rattle.schedule_writer.specs.Write.{linkBytes, scheduleOf, scheduleBytes}
 use Rattle.slices.specs.Written.{written, handed}
 use Rattle.site_check.specs.Check.{shaped, nodeOf, flowOf, illNode, illFlow, firstIllNode, firstIllFlow, formed, accepts, stands, passesOf, callFault}
 use Rattle.counters.specs.Blocks.{block, withBlock, cellsOf, withCells, zeros}
-use Rattle.admission.specs.Calls.{change, flowRuling, admitRuling, admitOf}
+use Rattle.flow_checks.specs.Flows.{flowRuling}
+use Rattle.admission.specs.Calls.{change, admitRuling, admitOf}
 use Rattle.queues.specs.Cells.{moved, arrived, delivering, passed, step}
 use Rattle.queues.specs.Pace.{All}
 use Rattle.moves.specs.Hops.{hopsAlong, hopsOf}

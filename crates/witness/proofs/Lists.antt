@@ -21,7 +21,8 @@ use Rattle.site_check.specs.Check.{shaped, nodeOf, flowOf, illNode, illFlow, fi
 use Rattle.counters.specs.Blocks.{block, withBlock, cellsOf, withCells, zeros}
 use Rattle.queues.specs.Cells.{moved, arrived, delivering, passed, step, waiting, delivered, arrivals, span}
 use Rattle.queues.specs.Pace.{All, Rising, Within}
-use Rattle.admission.specs.Calls.{change, flowRuling, admitRuling, admitOf, numberRuling, releaseRuling, releaseOf}
+use Rattle.flow_checks.specs.Flows.{flowRuling, numberRuling}
+use Rattle.admission.specs.Calls.{change, admitRuling, admitOf, releaseRuling, releaseOf}
 use Rattle.moves.specs.Hops.{own, hopsAlong, hopsOf}
 use Rattle.moves.specs.Moves.{recounted, cellsAfter}
 use Rattle.slot_checks.specs.Checks.{overflows, firstOverflow, unexpected, firstUnexpected, arrivalsRuling}

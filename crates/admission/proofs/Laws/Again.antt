@@ -15,10 +15,10 @@ use Rattle.reservations.specs.Words.{RoomAlong}
 use Rattle.tree.proofs.Laws.Tree.{has-when, route-within}
 use Rattle.reservations.proofs.Laws.Reservations.{width-live, load-taken}
 use Rattle.site.proofs.Laws.Flows.{live-here}
+use Rattle.flow_checks.specs.Flows.{routeFor}
 use Rattle.site_check.specs.Check.{flowOf}
 use Rattle.site_check.specs.Words.{Sound}
 use Rattle.site_check.proofs.Laws.Flows.{live-fits, live-few, sound-without}
-use Rattle.admission.specs.Calls.{routeFor}
 use Rattle.admission.specs.Words.{Admissible}
 
 -- The fields of a live flow, put back where they were.

@@ -4,9 +4,10 @@ use mathlib.Core.Path.{_≡_, _∙_, ap}
 use mathlib.Core.List.{List}
 use lib.ListN.{length}
 use Prim.Native.Nat.{ℕ}
+use Rattle.flow_checks.specs.Inner.{flowRulingBy}
+use Rattle.flow_checks.proofs.Laws.Answers.{ruling-by-loads}
 use Rattle.admission.specs.Calls.{admitRuling}
-use Rattle.admission.specs.Inner.{flowRulingBy}
-use Rattle.admission.proofs.Laws.Answers.{call-fails, call-passes, ruling-by-loads}
+use Rattle.admission.proofs.Laws.Answers.{call-fails, call-passes}
 use Rattle.admission.proofs.judge_admission.Statement.{statement}
 use Rattle.admission.proofs.judge_admission.Tie as tie
 

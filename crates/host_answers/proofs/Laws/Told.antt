@@ -16,7 +16,7 @@ use Rattle.schedule_writer.specs.Write.{scheduleBytes}
 use Rattle.slices.specs.Written.{written, encoded, handed}
 use Rattle.schedule_writer.proofs.Laws.Write.{links-few, schedule-size}
 use Rattle.format.specs.Commands.{scheduleSize}
-use Rattle.admission.specs.Calls.{numberRuling}
+use Rattle.flow_checks.specs.Flows.{numberRuling}
 use Rattle.plan.proofs.Laws.Near.{Near, near-accepted, near-refused, near-check}
 use Rattle.host_answers.specs.Answers.{told, answerOf, Tellable, Short}
 

@@ -5,7 +5,7 @@ use Rattle.rulings.specs.Outcome.{accepted, ruling}
 use Rattle.site.specs.declared.Site.{Site}
 use Rattle.site.specs.Sites.{emptySite, ofLists}
 use Rattle.reservations.specs.Reservations.{routeOf, delayBound}
-use Rattle.admission.proofs.Laws.Answers.{number-few}
+use Rattle.flow_checks.proofs.Laws.Answers.{number-few}
 use Rattle.host_answers.specs.Answers.{valued}
 use Rattle.host_answers.proofs.Laws.Told.{told-value, told-no, number-tellable}
 use native.Mathlib.Omega.{arith}

@@ -32,10 +32,11 @@ use Rattle.plan_writer.specs.Write.{flowCommand, planBytes, flowPlace}
 use Rattle.plan_writer.proofs.Laws.Changed.{plan-with-flow, plan-without-flow, size-with, size-without, place-within, place-live}
 use Rattle.plan.proofs.Laws.{plan-short, read-written}
 use Rattle.plan.proofs.Laws.Near.{near-accepted, near-check, near-checked}
-use Rattle.admission.specs.Calls.{change, unfitLink, routeFor, flowRuling, admitOf, numberRuling, releaseOf}
-use Rattle.admission.specs.Inner.{flowRulingBy}
+use Rattle.flow_checks.specs.Flows.{unfitLink, routeFor, flowRuling, numberRuling}
+use Rattle.flow_checks.specs.Inner.{flowRulingBy}
+use Rattle.flow_checks.proofs.Laws.Answers.{ruling-by-loads}
+use Rattle.admission.specs.Calls.{change, admitOf, releaseOf}
 use Rattle.admission.specs.Words.{Admissible, Releasable}
-use Rattle.admission.proofs.Laws.Answers.{ruling-by-loads}
 use Rattle.admission.proofs.Laws.{admits-when, releases-when, admission-judged, release-judged, admitted-passes}
 use Rattle.host_answers.specs.Answers.{told, answerOf}
 use Rattle.host_answers.proofs.Laws.Told.{told-value, told-no}

@@ -10,7 +10,7 @@ use Rattle.site.specs.Sites.{live}
 use Rattle.reservations.specs.Reservations.{periodsJudged, along}
 use Rattle.reservations.specs.Inner.{firstFull}
 use Rattle.limits.specs.Limits.{flowLimits}
-use Rattle.admission.specs.Calls.{routeFor}
+use Rattle.flow_checks.specs.Flows.{routeFor}
 
 -- `flowRuling` where the first link without room, or 0, is told. With the site's own it is that, as they are defined.
 unfoldable pub flowRulingWith : ℕ → Site → Flow → Ruling
