@@ -40,7 +40,8 @@ use Rattle.site_check.proofs.Laws.Empty.{empty-passes, linkless-empty}
 use Rattle.format.specs.Commands.{sizeOf}
 use Rattle.format.specs.Words.{Bytes}
 use Rattle.format.proofs.Laws.Reading.{readOn, read-end, ended-more}
-use Rattle.plan_reader.specs.Read.{plans, blank, decode, judgeForm, readOf}
+use Rattle.plan_commands.specs.Commands.{plans, blank, decode}
+use Rattle.plan_reader.specs.Read.{judgeForm, readOf}
 use Rattle.schedule_check.specs.declared.Schedule.{Schedule}
 use Rattle.schedule_check.specs.Schedules.{withoutLinks}
 use Rattle.schedule_reader.specs.Read.{schedules, scheduleRead}

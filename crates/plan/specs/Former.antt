@@ -13,7 +13,7 @@ use Rattle.tree.specs.Tree.{ofLink, has}
 use Rattle.reservations.specs.Reservations.{routeOf, along}
 use Rattle.lists.specs.Lists.{sumTo}
 use Rattle.schedule.specs.Schedule.{firstCrowded, scheduled}
-use Rattle.plan_reader.specs.Read.{decode}
+use Rattle.plan_commands.specs.Commands.{decode}
 
 -- 01, Reservations: the width of flow n on the link of node m, rate × wanted gap, and the sum of these widths.
 unfoldable pub formerWidth : Site → ℕ → ℕ → ℕ

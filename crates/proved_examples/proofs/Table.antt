@@ -17,7 +17,8 @@ use Rattle.limits.specs.Limits.{badNode, badFlow, nodeLimits, misplaced, flowLi
 use Rattle.format.specs.Commands.{sizeOf}
 use Rattle.format.specs.Bytes.{numberAt, bytesOf}
 use Rattle.format.specs.Reading.{faultOf, ended, readFrom}
-use Rattle.plan_reader.specs.Read.{nodeAt, flowAt, nodeFault, flowFault, laterFault, withNode, nodeAdded, flowAdded, after, decode, judgeForm, readOf}
+use Rattle.plan_commands.specs.Commands.{nodeAt, flowAt, nodeFault, flowFault, laterFault, withNode, nodeAdded, flowAdded, after, decode}
+use Rattle.plan_reader.specs.Read.{judgeForm, readOf}
 use Rattle.schedule_writer.specs.Write.{linkBytes, scheduleOf, scheduleBytes}
 use Rattle.slices.specs.Written.{written, handed}
 use Rattle.site_check.specs.Check.{shaped, nodeOf, flowOf, illNode, illFlow, firstIllNode, firstIllFlow, formed, accepts, stands, passesOf, callFault}

@@ -22,7 +22,8 @@ use Rattle.format.specs.Commands.{sizeOf}
 use Rattle.format.specs.Bytes.{numberAt}
 use Rattle.format.specs.Reading.{faultOf, ended, readFrom}
 use Rattle.format.specs.Words.{Bytes}
-use Rattle.plan_reader.specs.Read.{nodeAt, flowAt, nodeFault, flowFault, laterFault, withNode, nodeAdded, flowAdded, after, decode, judgeForm, readOf}
+use Rattle.plan_commands.specs.Commands.{nodeAt, flowAt, nodeFault, flowFault, laterFault, withNode, nodeAdded, flowAdded, after, decode}
+use Rattle.plan_reader.specs.Read.{judgeForm, readOf}
 use Rattle.plan.specs.Former.{formerWidth, formerLoad, formerOver, firstFormerOver, formerLate, firstFormerLate, formerReserved, formerJudgeOf, formerForm}
 use Rattle.plan.specs.Former.{formerRead}
 use Rattle.queues.specs.Pace.{All}

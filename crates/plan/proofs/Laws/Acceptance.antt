@@ -16,7 +16,8 @@ use Rattle.judgement.proofs.Laws.{judge-gives, judge-numbers}
 use Rattle.judgement.proofs.Laws.Judge.{judge-bare}
 use Rattle.site_check.specs.Words.{Formed}
 use Rattle.format.specs.Words.{Bytes}
-use Rattle.plan_reader.specs.Read.{plans, decode, judgeForm, readOf}
+use Rattle.plan_commands.specs.Commands.{plans, decode}
+use Rattle.plan_reader.specs.Read.{judgeForm, readOf}
 use Rattle.format.proofs.Laws.Reading.{read-end, ended-last}
 use Rattle.plan_writer.specs.Write.{nodeBytes, flowBytes, flowIfLive, commandBytes, planBytes}
 use Rattle.plan.specs.Words.{InForm}

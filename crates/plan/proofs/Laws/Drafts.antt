@@ -20,8 +20,8 @@ use Rattle.site_check.specs.Words.{Shape, IdleAt, Formed, Unscheduled}
 use Rattle.limits.specs.Words.{NodeGood}
 use Rattle.site_check.proofs.Laws.Forms.{formed-when, linkless-idle, flow-new, flow-old, flow-formed}
 use Rattle.limits.proofs.Laws.Forms.{good-same, good-wider, flow-good}
-use Rattle.plan_reader.specs.Read.{Draft, nodeFault, flowFault, withNode, nodeAdded, flowAdded, blank}
-use Rattle.plan_reader.proofs.Laws.Commands.{node-passed}
+use Rattle.plan_commands.specs.Commands.{Draft, nodeFault, flowFault, withNode, nodeAdded, flowAdded, blank}
+use Rattle.plan_commands.proofs.Laws.Commands.{node-passed}
 
 -- `next` is one above the highest number of a live flow, and 0 where no flow is live.
 pub record NextOf (s : Site) (next : ℕ) : Type 0 where

@@ -30,7 +30,7 @@ use Rattle.site_check.specs.Words.{Formed}
 use Rattle.site_check.proofs.Laws.Forms.{formed-gapped}
 use Rattle.site_check.proofs.Laws.Flows.{live-fits}
 use Rattle.format.specs.Words.{Bytes}
-use Rattle.plan_reader.specs.Read.{decode}
+use Rattle.plan_commands.specs.Commands.{decode}
 use Rattle.plan_writer.specs.Write.{planBytes}
 use Rattle.plan.specs.Words.{InForm}
 use Rattle.plan.specs.Former.{formerWidth, formerLoad, formerOver, firstFormerOver, formerLate, firstFormerLate, formerReserved, formerJudgeOf}

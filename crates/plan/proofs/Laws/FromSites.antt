@@ -15,7 +15,7 @@ use Rattle.site.specs.Sites.{emptySite, live, withFlow, withSchedule}
 use Rattle.tree.specs.Tree.{up}
 use Rattle.tree.proofs.Laws.Tree.{up-in}
 use Rattle.format.specs.Bytes.{numberAt, bytesOf}
-use Rattle.plan_reader.specs.Read.{Draft, nodeAt, flowAt, nodeFault, flowFault, withNode, nodeAdded, flowAdded, decode, laterFault, after, plans}
+use Rattle.plan_commands.specs.Commands.{Draft, nodeAt, flowAt, nodeFault, flowFault, withNode, nodeAdded, flowAdded, decode, laterFault, after, plans}
 use Rattle.site_check.specs.Check.{nodeOf, flowOf}
 use Rattle.plan_writer.specs.Write.{nodeBytes, flowBytes, flowIfLive, commandBytes}
 use Rattle.lists.specs.Lists.{joined}
@@ -29,7 +29,7 @@ use Rattle.limits.proofs.Laws.Forms.{node-good, flow-good, good-same, good-wide
 use Rattle.format.specs.Commands.{sizeOf}
 use Rattle.format.specs.Reading.{faultOf}
 use Rattle.format.proofs.Laws.Reading.{readOn, read-go}
-use Rattle.plan_reader.proofs.Laws.Decode.{decode-start}
+use Rattle.plan_commands.proofs.Laws.Decode.{decode-start}
 use Rattle.plan_writer.proofs.Laws.Write.{node-size, flow-size, live-bytes, idle-bytes}
 
 -- No offsets, and no periods.

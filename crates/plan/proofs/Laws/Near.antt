@@ -17,7 +17,8 @@ use Rattle.schedule.specs.Schedule.{firstCrowded, scheduled}
 use Rattle.judgement.specs.Judge.{reserved, judgeOf}
 use Rattle.format.specs.Commands.{sizeOf, scheduleSize}
 use Rattle.format.specs.Words.{Bytes}
-use Rattle.plan_reader.specs.Read.{decode, judgeForm, readOf}
+use Rattle.plan_commands.specs.Commands.{decode}
+use Rattle.plan_reader.specs.Read.{judgeForm, readOf}
 use Rattle.plan_writer.specs.Write.{commandBytes, planBytes}
 use Rattle.schedule_check.specs.declared.Schedule.{Schedule}
 use Rattle.schedule_reader.specs.Read.{scheduleRead}

@@ -11,7 +11,7 @@ use Rattle.site.specs.Sites.{withSchedule}
 use Rattle.site_check.specs.Words.{Unscheduled}
 use Rattle.format.specs.Words.{Bytes}
 use Rattle.format.proofs.Laws.Reading.{readOn, Stop}
-use Rattle.plan_reader.specs.Read.{Draft, plans, decode}
+use Rattle.plan_commands.specs.Commands.{Draft, plans, decode}
 use Rattle.plan_writer.specs.Write.{planBytes}
 use Rattle.plan.specs.Words.{InForm, Begun, commandChecks, FormFails, no-end, command, more}
 use Rattle.plan.proofs.Laws.Drafts.{NextOf, drafted-next}

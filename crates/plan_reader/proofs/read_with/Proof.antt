@@ -12,12 +12,14 @@ use Rattle.site.specs.Sites.{withFlow, withSchedule}
 use Rattle.reservations.specs.Reservations.{loadsOf}
 use Rattle.judgement.specs.Judge.{withSite, judgeOf}
 use Rattle.judgement.proofs.Laws.Rulings.{judged-accepted, judged-refused}
-use Rattle.plan_reader.specs.Read.{Draft, plans, fault, withNode, nodeAdded, flowAdded, decode, judgeForm, readOf}
-use Rattle.plan_reader.specs.Inner.{Known}
-use Rattle.plan_reader.proofs.Laws.Commands.{node-room, flow-number, judged, end-more, end-last, refused-keeps, refused-settles}
+use Rattle.plan_commands.specs.Commands.{Draft, plans, fault, withNode, nodeAdded, flowAdded, decode}
+use Rattle.plan_commands.specs.Inner.{Known}
+use Rattle.plan_commands.proofs.Laws.Commands.{node-room, flow-number, end-more, end-last, node-whole, flow-whole, fault-at-command}
+use Rattle.plan_commands.proofs.Laws.Decode.{decode-start, decode-node, decode-flow, none-within, node-none, flow-none}
+use Rattle.plan_reader.specs.Read.{judgeForm, readOf}
+use Rattle.plan_reader.proofs.Laws.Commands.{judged, refused-keeps, refused-settles}
 use Rattle.format.proofs.Laws.Reading.{readOn, read-out, read-end, read-stop}
 use Rattle.format.proofs.Laws.{size-node, size-flow}
-use Rattle.plan_reader.proofs.Laws.Decode.{decode-start, decode-node, decode-flow, none-within, node-none, flow-none}
 use Rattle.plan_reader.proofs.read_with.Statement.{statement}
 use Rattle.plan_reader.proofs.read_with.Tie as tie
 
@@ -33,6 +35,10 @@ Inv-loop bytes loads₀ site₀ next₀ at₀ loads site next at = (loads ≡ lo
 abbrev μ-loop : tie.MeasureT-loop
 μ-loop bytes loads₀ site₀ next₀ at₀ loads site next at = length bytes - at
 
+-- What has been read when a turn of the loop begins.
+abbrev draft : tie.At-loop Inv-loop μ-loop → Draft
+draft t = reading (t .loop .site) (t .loop .next)
+
 -- A command whose checks are behind it, and the turn of the loop that it is read in.
 abbrev turn : tie.Else3 Inv-loop μ-loop → tie.At-loop Inv-loop μ-loop
 turn c = c .before .before .before .before .before .before .before
@@ -40,19 +46,22 @@ turn c = c .before .before .before .before .before .before .before
 abbrev bytesOf : tie.Else3 Inv-loop μ-loop → List ℕ
 bytesOf c = c .before .before .before .before .before .before .before .before .before .before .args .bytes .now
 
-none : (c : tie.Else3 Inv-loop μ-loop) → fault (bytesOf c) (turn c .loop .at) (reading (turn c .loop .site) (turn c .loop .next)) ≡ 0
-none c = sym (c .before .fault-at .ensures _ (known _ _)) ∙ c .if3 .left
+none : (c : tie.Else3 Inv-loop μ-loop) → fault (bytesOf c) (turn c .loop .at) (draft (turn c)) ≡ 0
+none c = sym (c .before .fault-at .ensures _ (known _ _) ∙ fault-at-command _ _ _ (omega arith)) ∙ c .if3 .left
 
--- A NODE among them has room, and a FLOW one of the 64 numbers.
+-- A NODE among them has room.
 room : (c : tie.After-node-at Inv-loop μ-loop) → turn (c .before .before .before) .loop .site .links < 63
 room c = node-room _ _ (node-none _ _ _ (none (c .before .before .before)) (c .before .if4 .taken) .1)
-
-few : (c : tie.After-flow-at Inv-loop μ-loop) → c .flow-at .result .number < 64
-few c = rw (c .flow-at .ensures) (flow-number _ _ (flow-none _ _ _ (none (c .before .before .before)) (c .before .if4 .left) .1) .0)
 
 -- A command lies within the bytes.
 within : (c : tie.Else3 Inv-loop μ-loop) → turn c .loop .at + 5 < length (bytesOf c)
 within c = none-within _ _ _ (none c)
+
+-- A FLOW has one of the 64 numbers.
+few : (c : tie.After-flow-at Inv-loop μ-loop) → c .flow-at .result .number < 64
+few c =
+    let stay = c .before .before .before in
+    rw (c .flow-at .ensures ∙ flow-whole _ _ (within stay)) (flow-number _ _ (flow-none _ _ _ (none stay) (c .before .if4 .left) .1) .0)
 
 fits : (c : tie.Else3 Inv-loop μ-loop) → turn c .loop .at + 6 < 18446744073709551616
 fits c = omega (arith, within c)
@@ -66,8 +75,8 @@ unfolding readOf judgeForm
 whole c =
     let last = c .before .before .before .before .before .before .before .before .before .before .before .before in
     let asked = last .before in
-    end-last _ _ _ _ (asked .more-behind .ensures) (last .if2 .left)
-    ∙ ap judged (sym (read-end plans _ _ _ (omega arith) (asked .before .if1 .taken)) ∙ here c .loop .inv .1)
+    ap judged (end-last _ _ (draft (here c)) _ (asked .more-behind .ensures) (last .if2 .left)
+    ∙ sym (read-end plans _ _ _ (omega arith) (asked .before .if1 .taken)) ∙ here c .loop .inv .1)
 
 abbrev timed : tie.After-settle Inv-loop μ-loop → Site
 timed c = withSchedule (here c .loop .site) (c .settle .last .1 .1 .1 .1 .1 .1 .1 .1 .0) (c .settle .last .1 .1 .1 .1 .1 .1 .1 .1 .1 .0)
@@ -92,11 +101,13 @@ refusal-requires c κs = search needs
 
 returns : tie.Need-returns Inv-loop μ-loop
 unfolding readOf judgeForm
-returns c = (
-  c .refusal .ensures ∙ end-more _ _ _ _ (c .before .before .more-behind .ensures) (c .before .if2 .taken)
-      ∙ ap judged (sym (read-end plans _ _ _ (omega arith) (c .before .before .before .if1 .taken)) ∙ c .before .before .before .before .before .before .loop .inv .1),
-  c .before .before .before .before .before .before .loop .inv .0 ∙ refused-keeps (c .refusal .result) _ _ (c .refusal .ensures) _,
-)
+returns c =
+    let asked = c .before .before in
+    let turn = asked .before .before .before .before in (
+      c .refusal .ensures ∙ ap judged (end-more _ _ (draft turn) _ (asked .more-behind .ensures) (c .before .if2 .taken)
+          ∙ sym (read-end plans _ _ _ (omega arith) (asked .before .if1 .taken)) ∙ turn .loop .inv .1),
+      turn .loop .inv .0 ∙ refused-keeps (c .refusal .result) _ _ (c .refusal .ensures) _,
+    )
 
 settle-requires : tie.Need-settle-requires Inv-loop μ-loop
 settle-requires c κs = search needs
@@ -140,7 +151,7 @@ returns-4 : tie.Need-returns-4 Inv-loop μ-loop
 unfolding readOf judgeForm
 returns-4 c =
     let asked = c .before .before in
-    let is = asked .fault-at .ensures _ (known _ _) in
+    let is = asked .fault-at .ensures _ (known _ _) ∙ fault-at-command _ _ _ (omega arith) in
     let turn = asked .before .before .before .before .before .before in (
       c .refusal3 .ensures ∙ ap judged (ap (λ (r : ℕ). refused r (turn .loop .at)) is
           ∙ sym (read-stop plans _ _ _ (omega arith) (asked .before .before .before .if1 .left) (λ z. c .before .if3 .taken (is ∙ z))) ∙ turn .loop .inv .1),
@@ -151,7 +162,7 @@ shared-slice-read-if4 : tie.Need-shared-slice-read-if4 Inv-loop μ-loop
 shared-slice-read-if4 c = search needs
 
 node-at-requires : tie.Need-node-at-requires Inv-loop μ-loop
-node-at-requires c κs = within (c .before .before)
+node-at-requires c κs = search needs
 
 cast-i : tie.Need-cast-i Inv-loop μ-loop
 cast-i c = let r = room c in search needs
@@ -189,12 +200,12 @@ loop-again c =
     let taken = c .before .before in
     let stay = taken .before .before in (
       turn stay .loop .inv .0,
-      decode-node _ _ _ (omega arith) (stay .before .before .before .before .if1 .left) (none stay) (taken .if4 .taken) _ (c .before .node-at .ensures) _
-          (c .size .ensures) (turn stay .loop .inv .1),
+      decode-node _ _ _ (omega arith) (stay .before .before .before .before .if1 .left) (none stay) (taken .if4 .taken) _
+          (c .before .node-at .ensures ∙ node-whole _ _ (within stay)) _ (c .size .ensures) (turn stay .loop .inv .1),
     )
 
 flow-at-requires : tie.Need-flow-at-requires Inv-loop μ-loop
-flow-at-requires c κs = within (c .before .before)
+flow-at-requires c κs = search needs
 
 cast-n : tie.Need-cast-n Inv-loop μ-loop
 cast-n c = let r = few (c .before) in search needs
@@ -233,8 +244,8 @@ loop-again-2 c =
     let other = made .before in
     let stay = other .before .before in (
       turn stay .loop .inv .0,
-      decode-flow _ _ _ (omega arith) (stay .before .before .before .before .if1 .left) (none stay) (other .if4 .left) _ (made .flow-at .ensures) _
-          (c .size2 .ensures) (turn stay .loop .inv .1),
+      decode-flow _ _ _ (omega arith) (stay .before .before .before .before .if1 .left) (none stay) (other .if4 .left) _
+          (made .flow-at .ensures ∙ flow-whole _ _ (within stay)) _ (c .size2 .ensures) (turn stay .loop .inv .1),
     )
 
 refusal-requires-4 : tie.Need-refusal-requires-4 Inv-loop μ-loop

@@ -13,7 +13,7 @@ use Rattle.limits.specs.declared.Node.{Node}
 use Rattle.format.specs.Commands.{sizeOf}
 use Rattle.format.proofs.Laws.{size-node, size-flow, size-kinds}
 use Rattle.format.proofs.Laws.Reading.{readOn, fault-passed, read-go}
-use Rattle.plan_reader.specs.Read.{Draft, nodeAt, flowAt, nodeFault, flowFault, nodeAdded, flowAdded, laterFault, after, plans, fault, decode, blank}
+use Rattle.plan_commands.specs.Commands.{Draft, nodeAt, flowAt, nodeFault, flowFault, nodeAdded, flowAdded, laterFault, after, plans, fault, decode, blank}
 
 -- What a NODE or a FLOW is that passes, and what is read then.
 abbrev pub NodePasses : List ℕ → ℕ → Draft → Type 0

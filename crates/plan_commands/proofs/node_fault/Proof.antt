@@ -1,9 +1,9 @@
 -- Right because 4 and 7 are asked before the limits.
 use borrow.Author.Needs.{needs}
 use native.Mathlib.Omega.{arith}
-use Rattle.plan_reader.proofs.Laws.Commands.{node-late, node-full, node-rest}
-use Rattle.plan_reader.proofs.node_fault.Statement.{statement}
-use Rattle.plan_reader.proofs.node_fault.Tie as tie
+use Rattle.plan_commands.proofs.Laws.Commands.{node-late, node-full, node-rest}
+use Rattle.plan_commands.proofs.node_fault.Statement.{statement}
+use Rattle.plan_commands.proofs.node_fault.Tie as tie
 
 returns : tie.Need-returns
 returns c = λ d w. node-late d _ (rw (w .least) (c .if1 .taken))

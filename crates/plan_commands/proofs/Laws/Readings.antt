@@ -11,10 +11,10 @@ use Rattle.format.specs.Commands.{sizeOf}
 use Rattle.format.proofs.Laws.{size-most}
 use Rattle.format.proofs.Laws.Reading.{ended-alike, Agreeing, Settled, read-first}
 use Rattle.limits.specs.declared.Node.{Node}
-use Rattle.plan_reader.specs.Read.{Draft, nodeAt, flowAt, nodeFault, flowFault, laterFault, withNode, nodeAdded, flowAdded, after, plans, fault, blank}
-use Rattle.plan_reader.specs.Read.{decode}
-use Rattle.plan_reader.proofs.Laws.Commands.{node-room, flow-number, node-at, flow-at}
-use Rattle.plan_reader.proofs.Laws.Decode.{fault-none}
+use Rattle.plan_commands.specs.Commands.{Draft, nodeAt, flowAt, nodeFault, flowFault, laterFault, withNode, nodeAdded, flowAdded, after, plans, fault, blank}
+use Rattle.plan_commands.specs.Commands.{decode}
+use Rattle.plan_commands.proofs.Laws.Commands.{node-room, flow-number, node-at, flow-at}
+use Rattle.plan_commands.proofs.Laws.Decode.{fault-none}
 
 -- How far a reading can come: a NODE makes one of at most 63 links, and a FLOW raises the next number, at most 64.
 record Within (at : ℕ) (d : Draft) : Type 0 where
