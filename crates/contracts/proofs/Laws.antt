@@ -1,20 +1,27 @@
--- The contracts themselves, as the checker reads them, give the equations that claims cite, with all memory lent: of the operations of 01 and 02, of `loads`,
--- of the reading that fills in loads, and of each exported function of the library. `a` holds what is handed in, in the order of the parameters, and `x` what
--- is lent as the call leaves it. A contract that says less gives its law no more.
+-- The contracts themselves, as the checker reads them, give the equations that claims cite, with all memory lent: of the operations of 01 and 02, of both
+-- checks 14, of the judgement, of `loads` and G, of the reading that fills in loads, and of each exported function of the library. `a` holds what is handed
+-- in, in the order of the parameters, and `x` what is lent as the call leaves it. A contract that says less gives its law no more.
 use mathlib.Core.Path.{_≡_}
 use Rattle.rulings.specs.Outcome.{ruling, settled}
-use Rattle.judgement.specs.Judge.{withSite}
+use Rattle.judgement.specs.Judge.{withSite, judgeOf}
 use Rattle.plan_reader.specs.Read.{readOf}
 use Rattle.slices.specs.Written.{writing}
-use Rattle.site_check.specs.Check.{writtenIf}
+use Rattle.site_check.specs.Check.{passesOf, writtenIf}
 use Rattle.plan_writer.specs.Write.{planBytes}
 use Rattle.schedule_check.specs.Schedules.{ofLists}
+use Rattle.schedule_check.specs.Check.{schedulePasses}
 use Rattle.schedule_reader.specs.Read.{withLinks, scheduleRead}
 use Rattle.schedule_writer.specs.Write.{scheduleOf, scheduleBytes, scheduleWritten}
 use Rattle.admission.specs.Calls.{admitOf, releaseOf}
 use Rattle.sender.specs.Sender.{found, senderOf}
 use Rattle.moves.specs.Hops.{own}
 use Rattle.simulation.specs.Slot.{slotOf, startOf}
+use Rattle.pinwheel.specs.Answers.{outcome}
+use Rattle.pinwheel.proofs.assign.Reads as slot-rules
+use Rattle.bounds.proofs.delay_bound.Reads as delays
+use Rattle.judgement.proofs.judge.Reads as judgements
+use Rattle.site_check.proofs.passes.Reads as checks
+use Rattle.schedule_check.proofs.passes.Reads as schedule-checks
 use Rattle.plan_reader.proofs.read_with.Reads as readings
 use Rattle.plan_reader.proofs.read_plan.Reads as plans
 use Rattle.plan_writer.proofs.write_plan.Reads as written-plans
@@ -28,7 +35,7 @@ use Rattle.sender.proofs.sender.Reads as lookups
 use Rattle.simulation.proofs.start.Reads as begun
 use Rattle.simulation.proofs.slot.Reads as moved
 use Rattle.slot_rule.specs.Assign.{assigned}
-use Rattle.reservations.specs.Reservations.{loadsOf}
+use Rattle.reservations.specs.Reservations.{loadsOf, delayBound}
 use Rattle.host_answers.specs.Answers.{told}
 use Rattle.host_calls.specs.Calls.{planReadFrom, scheduleFrom, startFrom, slotFrom, senderFrom, boundFrom}
 use Rattle.host_changes.specs.Changes.{admitFrom, releaseFrom}
@@ -45,6 +52,22 @@ use Rattle.slotplan_lib.proofs.slotplan_slot.Reads as slots
 use Rattle.slotplan_lib.proofs.slotplan_sender.Reads as senders
 use Rattle.slotplan_lib.proofs.slotplan_bound.Reads as bounds
 use Rattle.slotplan_lib.proofs.slotplan_assign.Reads as assigns
+
+pub slot-ruling : (κs : _) (a : _) (r : _) (x : _) → slot-rules.Post κs a r x
+    → (outcome r, x .1 .0 .now, x .1 .1 .0 .now) ≡ assigned 2 (a .0 .now) (a .1 .0 .now) (a .1 .1 .0 .now)
+slot-ruling κs a r x p = p
+
+pub judging : (κs : _) (a : _) (r : _) (x : _) → judgements.Post κs a r x → (ruling (r .verdict), r .site) ≡ withSite (judgeOf (a .0))
+judging κs a r x p = p
+
+pub site-passing : (κs : _) (a : _) (r : _) (x : _) → checks.Post κs a r x → r ≡ passesOf (a .0)
+site-passing κs a r x p = p
+
+pub schedule-passing : (κs : _) (a : _) (r : _) (x : _) → schedule-checks.Post κs a r x → r ≡ schedulePasses (a .0)
+schedule-passing κs a r x p = p
+
+pub delay-told : (κs : _) (a : _) (r : _) (x : _) → delays.Post κs a r x → r ≡ delayBound (a .0) (a .1 .0)
+delay-told κs a r x p = p
 
 pub plan-reading : (κs : _) (a : _) (r : _) (x : _) → plans.Post κs a r x → (ruling (r .verdict), r .site) ≡ withSite (readOf (a .0 .now))
 plan-reading κs a r x p = p
