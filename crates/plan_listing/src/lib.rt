@@ -92,7 +92,7 @@ fn put_flows(out: &mut [u8], at: usize, site: Site) -> usize
     taken
 }
 
-fn put_plan(out: &mut [u8], at: usize, site: Site) -> usize
+pub fn put_plan(out: &mut [u8], at: usize, site: Site) -> usize
     ensures { λ r. ⌜ (r, now (out .exit)) ≡ puts (at, now (out .entry)) (siteTyped site) ⌝ }
 {
     let linked = put_nodes(out, at, site);

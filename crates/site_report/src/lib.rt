@@ -14,7 +14,7 @@ ghost use Rattle.plan_reader.specs.Read.{readOf};
 ghost use Rattle.lists.specs.Lists.{joined};
 ghost use Rattle.site.specs.Sites.{used};
 
-fn put_site(out: &mut [u8], at: usize, site: Site) -> usize
+pub fn put_site(out: &mut [u8], at: usize, site: Site) -> usize
     ensures { λ r. ⌜ (r, now (out .exit)) ≡ puts (at, now (out .entry)) (siteLines site) ⌝ }
 {
     let linked = put_links(out, at, site);
