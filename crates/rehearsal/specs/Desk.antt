@@ -52,8 +52,12 @@ pub record Holds (space : List ℕ) (kept : ℕ) (line : List ℕ) : Type 0 wher
   pub whole : kept ≤ length space → line ≡ take kept space
   pub longer : length space < kept → length space < length line
 
--- The memory lent holds a rehearsal: site and counters, the line in its space, and in the space of the answers what these leave of s.
-pub record Stands (s : ℕ × List ℕ) (d : Desk) (σ : State) (space : List ℕ) (kept : ℕ) (t : ℕ × List ℕ) : Type 0 where
+-- The memory lent is at this point of a rehearsal: with its site and counters, and with the line that has not ended in its space.
+pub record AtDesk (d : Desk) (σ : State) (space : List ℕ) (kept : ℕ) : Type 0 where
   pub state : σ ≡ d .state
   pub held : Holds space kept (d .line)
+
+-- Besides, the space of the answers is as these leave s.
+pub record Stands (s : ℕ × List ℕ) (d : Desk) (σ : State) (space : List ℕ) (kept : ℕ) (t : ℕ × List ℕ) : Type 0 where
+  pub at : AtDesk d σ space kept
   pub handed : t ≡ puts s (d .text)

@@ -109,8 +109,8 @@ module _ (bytes space₀ out₀ : List ℕ) (σ₀ : State) (kept₀ : ℕ) wher
       where
         answered : (e : Desk) → Stands (0, out₀) e σ space kept (filled, out) → Stands (0, out₀) (fedByte (length space₀) e (getD bytes i 0)) σ′ space 0 t
         answered e h =
-            let told = rw (w .space-long, h .state) at (g (e .line) (h .held)) in
-            rw newline (record { state = told .0; held = holds-nothing space; handed = puts-then _ _ _ _ _ (h .handed) (told .1) })
+            let told = rw (w .space-long, h .at .state) at (g (e .line) (h .at .held)) in
+            rw newline (record { at = record { state = told .0; held = holds-nothing space }; handed = puts-then _ _ _ _ _ (h .handed) (told .1) })
 
         go : {all : Desk × List ℕ} → (e : Desk) × Stands (0, out₀) e σ space kept (filled, out) × (takenUp (length space₀) (0, out₀) e (drop i bytes) ≡ all)
             → (e : Desk) × Stands (0, out₀) e σ′ space 0 t × (takenUp (length space₀) (0, out₀) e (drop (i + 1) bytes) ≡ all)
@@ -128,7 +128,7 @@ module _ (bytes space₀ out₀ : List ℕ) (σ₀ : State) (kept₀ : ℕ) wher
     }
       where
         typed : (e : Desk) → Stands (0, out₀) e σ space kept (filled, out) → Stands (0, out₀) (fedByte (length space₀) e (getD bytes i 0)) σ space′ kept′ (filled, out)
-        typed e h = rw (ne-eqb _ _ other) (record { state = h .state; held = g (e .line) (h .held); handed = h .handed })
+        typed e h = rw (ne-eqb _ _ other) (record { at = record { state = h .at .state; held = g (e .line) (h .at .held) }; handed = h .handed })
 
         go : {all : Desk × List ℕ} → (e : Desk) × Stands (0, out₀) e σ space kept (filled, out) × (takenUp (length space₀) (0, out₀) e (drop i bytes) ≡ all)
             → (e : Desk) × Stands (0, out₀) e σ space′ kept′ (filled, out) × (takenUp (length space₀) (0, out₀) e (drop (i + 1) bytes) ≡ all)
