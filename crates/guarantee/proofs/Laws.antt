@@ -8,7 +8,7 @@ use mathlib.Core.Path.{_≡_, refl, sym, _∙_, ap}
 use mathlib.Core.Bool.{true, and-eq-true-iff}
 use mathlib.Core.Logic.{_↔_}
 use mathlib.Core.List.{List, [], _∷_, _++_, map}
-use lib.ListN.{length, drop}
+use lib.ListN.{length}
 use borrow.Author.Tests.{lt-ltb, ltb-true}
 use native.Mathlib.Omega.{arith}
 use Rattle.rulings.specs.Outcome.{Ruling, accepted, refused, Ruled, nothing}
@@ -25,7 +25,7 @@ use Rattle.site_check.proofs.Laws.{passes-sound, flow-taken, bound-within}
 use Rattle.site_check.proofs.Laws.Flows.{live-few}
 use Rattle.counters.specs.Blocks.{cellsOf}
 use Rattle.counters.proofs.Laws.{length-zeros}
-use Rattle.queues.specs.Cells.{Entry, steps, arrivals}
+use Rattle.queues.specs.Cells.{Entry, steps, arrivals, allButNewest}
 use Rattle.queues.specs.Pace.{All, Rising}
 use Rattle.queues.specs.Words.{HasLeft}
 use Rattle.queues.proofs.Laws.Delay.{span-some}
@@ -33,12 +33,11 @@ use Rattle.plan.proofs.Laws as plan
 use Rattle.plan_reader.specs.Read.{readOf}
 use Rattle.plan_writer.specs.Write.{flowBytes, flowIfLive, planBytes, bytesBefore, bytesBehind}
 use Rattle.plan_writer.proofs.Laws.Changed.{plan-parts, plan-without}
-use Rattle.admission.specs.Calls.{admitOf, releaseOf}
 use Rattle.admission.specs.Words.{boundFor}
 use Rattle.admission.proofs.Laws.{admit-accepted, admit-refused, release-accepted, release-refused, bound-asked, cells-after, admitted-passes}
 use Rattle.moves.specs.Hops.{Service, own, hopsOf}
 use Rattle.moves.specs.Moves.{recounted}
-use Rattle.simulation.specs.Slot.{slotOf, startRuling, startOf}
+use Rattle.simulation.specs.Slot.{startRuling, startOf}
 use Rattle.simulation.proofs.Laws.{slot-accepted, slot-refused, start-accepted, start-refused, start-cells, starts-when}
 use Rattle.moves.proofs.Laws.{slot-cells}
 use Rattle.guarantee.specs.Runs.{Call, slot, admit, release, start, State, Promise, called, checksOf, Log, Run, none, then, admissions}
@@ -46,28 +45,6 @@ use Rattle.guarantee.specs.Demand.{entered, slotsOf, Stays, NoStart, rat
 use Rattle.guarantee.specs.Words.{Exchanged, nodesAlone}
 use Rattle.guarantee.proofs.Laws.Demand.{followed, demand3-any, own-steady, span-along, own-few, own-serves, own-some, own-short}
 use Rattle.guarantee.proofs.Laws.Reach.{below-none, below-all, below-passes, reach}
-
--- What the functions promise is a step of a run: these are the equations of their `ensures`, word for word.
-module _ (s : Site) (counters counters′ : List ℕ) (a : Ruling) where
-  pub slot-promised : (t : ℕ) (xs : List ℕ) → (a, counters′) ≡ slotOf own s counters xs t
-      → Promise own (slot t xs) (record { site = s; counters = counters }) a (record { site = s; counters = counters′ })
-  unfolding Promise
-  slot-promised t xs e = (e, refl)
-
-  pub start-promised : (a, counters′) ≡ startOf s counters
-      → Promise own start (record { site = s; counters = counters }) a (record { site = s; counters = counters′ })
-  unfolding Promise
-  start-promised e = (e, refl)
-
-  pub admit-promised : (s′ : Site) (f : Flow) → (a, s′, counters′) ≡ admitOf s counters f
-      → Promise own (admit f) (record { site = s; counters = counters }) a (record { site = s′; counters = counters′ })
-  unfolding Promise
-  admit-promised s′ f e = e
-
-  pub release-promised : (s′ : Site) (n : ℕ) → (a, s′, counters′) ≡ releaseOf s counters n
-      → Promise own (release n) (record { site = s; counters = counters }) a (record { site = s′; counters = counters′ })
-  unfolding Promise
-  release-promised s′ n e = e
 
 -- G is the sum of the periods on the route, the bound that is printed; it is at least 1.
 pub bound-is : (s : Site) (f : ℕ) → boundOf own s f ≡ delayBound s f
@@ -108,7 +85,7 @@ pub cells-from : (f : ℕ) (σ₀ : State) (l : Log) (σ : State) → Run own σ
 cells-from f σ₀ l σ run e on d u = followed own own-steady f (own-few (σ₀ .site) e f on) σ₀ on run d u .cells
 
 -- All but some of the newest slots have at least the arrivals of the older ones.
-late-total : (n : ℕ) (newer older : List Entry) → n ≤ length newer → total (arrivals older) ≤ total (drop n (arrivals (newer ++ older)))
+late-total : (n : ℕ) (newer older : List Entry) → n ≤ length newer → total (arrivals older) ≤ total (allButNewest n (arrivals (newer ++ older)))
 unfolding arrivals total
 late-total zero [] older l = omega arith
 late-total (suc n) [] older l = absurd (omega arith)

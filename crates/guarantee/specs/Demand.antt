@@ -3,14 +3,14 @@ use Prim.Native.Nat.{ℕ, _+_, _-_, _*_, _≤_}
 use mathlib.Core.Path.{_≡_}
 use mathlib.Core.Bool.{true}
 use mathlib.Core.List.{List, [], _∷_}
-use lib.ListN.{length, getD, drop}
+use lib.ListN.{length, getD}
 use Rattle.rulings.specs.Outcome.{Ruling, accepted, refused, Ruled, nothing}
 use Rattle.lists.specs.Lists.{total}
 use Rattle.site.specs.declared.Site.{Site}
 use Rattle.site.specs.Sites.{live}
 use Rattle.site_check.specs.Check.{passesOf}
 use Rattle.counters.specs.Blocks.{cellsOf, zeros}
-use Rattle.queues.specs.Cells.{Entry, arrived, steps, waiting, delivered, arrivals, span}
+use Rattle.queues.specs.Cells.{Entry, arrived, steps, waiting, delivered, arrivals, allButNewest, span}
 use Rattle.queues.specs.Pace.{All, Rising, Within}
 use Rattle.moves.specs.Hops.{Service, hopsOf}
 use Rattle.guarantee.specs.Runs.{Call, slot, admit, release, start, State, Log, Run, none, then, checksOf}
@@ -73,18 +73,22 @@ unfoldable pub Answered : {v : Service} {σ₀ : State} {l : Log} {σ : State} �
 Answered none = Unit
 Answered (then {σ = σ} c r σ′ run p) = Ruled nothing (checksOf c σ) r × Answered run
 
--- 01: at most n packets of flow f wait in an accepted slot at the moment when what arrived has joined ..
-unfoldable pub WaitsJoined : ℕ → ℕ → Call → Ruling → State → Type 0
-WaitsJoined f n (slot t xs) (accepted a) σ = waiting (arrived (getD xs f 0) (cellsOf f (σ .counters))) ≤ n
-WaitsJoined f n (slot t xs) (refused m p) σ = Unit
-WaitsJoined f n (admit g) r σ = Unit
-WaitsJoined f n (release m) r σ = Unit
-WaitsJoined f n start r σ = Unit
-
--- .. and after every call, and at the beginning.
+-- 01: at most n packets of flow f wait after every call, and at the beginning.
 unfoldable pub Waits : {v : Service} {σ₀ : State} {l : Log} {σ : State} → ℕ → ℕ → Run v σ₀ l σ → Type 0
 Waits {σ₀ = σ₀} f n none = waiting (cellsOf f (σ₀ .counters)) ≤ n
-Waits f n (then {σ = σ} c r σ′ run p) = (waiting (cellsOf f (σ′ .counters)) ≤ n) × WaitsJoined f n c r σ × Waits f n run
+Waits f n (then c r σ′ run p) = (waiting (cellsOf f (σ′ .counters)) ≤ n) × Waits f n run
+
+-- 01: and so in each accepted slot when its arrivals have just joined. First for one call, made in the state σ; then for all of a list.
+unfoldable pub JoinsIn : ℕ → ℕ → Call → Ruling → State → Type 0
+JoinsIn f n (slot t xs) (accepted a) σ = waiting (arrived (getD xs f 0) (cellsOf f (σ .counters))) ≤ n
+JoinsIn f n (slot t xs) (refused m p) σ = Unit
+JoinsIn f n (admit g) r σ = Unit
+JoinsIn f n (release m) r σ = Unit
+JoinsIn f n start r σ = Unit
+
+unfoldable pub Joins : {v : Service} {σ₀ : State} {l : Log} {σ : State} → ℕ → ℕ → Run v σ₀ l σ → Type 0
+Joins f n none = Unit
+Joins f n (then {σ = σ} c r σ′ run p) = JoinsIn f n c r σ × Joins f n run
 
 -- 01, after every list:
 pub record Kept (v : Service) (f : ℕ) (σ₀ : State) (l : Log) (σ : State) (run : Run v σ₀ l σ) : Type 0 where
@@ -95,11 +99,13 @@ pub record Kept (v : Service) (f : ℕ) (σ₀ : State) (l : Log) (σ : State) (
   -- its arrivals are in its queues or delivered;
   pub all : total (arrivals (slotsOf f l)) ≡ waiting (cellsOf f (σ .counters)) + delivered (cellsOf f (σ .counters))
   -- its arrivals in all accepted slots but the last G - 1 are delivered;
-  pub delay : total (drop (boundOf v (σ₀ .site) f - 1) (arrivals (slotsOf f l))) ≤ delivered (cellsOf f (σ .counters))
+  pub delay : total (allButNewest (boundOf v (σ₀ .site) f - 1) (arrivals (slotsOf f l))) ≤ delivered (cellsOf f (σ .counters))
   -- G is at most its deadline;
   pub deadline : boundOf v (σ₀ .site) f ≤ deadlineOf (σ₀ .site) f
-  -- at no moment more than rate × G of its packets wait.
+  -- at most rate × G of its packets wait after every call,
   pub waits : Waits f (rateOf (σ₀ .site) f * boundOf v (σ₀ .site) f) run
+  -- and in each accepted slot when its arrivals have just joined.
+  pub joins : Joins f (rateOf (σ₀ .site) f * boundOf v (σ₀ .site) f) run
 
 -- The number of the newest of these slots, 0 where there is none.
 unfoldable pub newest : List Entry → ℕ

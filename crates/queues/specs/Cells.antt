@@ -2,7 +2,7 @@
 use Prim.Native.Nat.{ℕ, _+_, _-_, min}
 use mathlib.Core.Bool.{Bool, cond}
 use mathlib.Core.List.{List, [], _∷_}
-use lib.ListN.{getD, take}
+use lib.ListN.{getD, take, drop}
 use Rattle.lists.specs.Lists.{total}
 
 -- A link of a route as the flow's packets meet it: in which slots it sends, the flow's width on it, and its served gap, the largest number of slots from
@@ -60,6 +60,10 @@ delivered cells = getD cells 8 0
 unfoldable pub arrivals : List Entry → List ℕ
 arrivals [] = []
 arrivals (e ∷ slots) = e .arrival ∷ arrivals slots
+
+-- All but the newest n of a list that has the newest first, as `Log`, `slotsOf` and `arrivals` have it.
+abbrev pub allButNewest : ℕ → List ℕ → List ℕ
+allButNewest n counts = drop n counts
 
 -- The sum of the served gaps of a route. By a site's own schedule it is 01's G, the sum of the periods.
 unfoldable pub span : List Hop → ℕ

@@ -2,7 +2,6 @@
 use Prim.Native.Nat.{ℕ, zero, suc, _-_, _*_, _≤_}
 use mathlib.Core.Path.{_≡_, refl}
 use mathlib.Core.List.{List, [], _∷_}
-use lib.ListN.{drop}
 use native.Mathlib.Omega.{arith}
 use Rattle.rulings.specs.Outcome.{accepted, checked, settled}
 use Rattle.lists.specs.Search.{last, first, any}
@@ -19,7 +18,7 @@ use Rattle.judgement.specs.Judge.{reserved, judgeOf}
 use Rattle.limits.specs.Limits.{badNode, badFlow, nodeLimits, misplaced, flowLimits}
 use Rattle.site_check.specs.Check.{shaped, nodeOf, flowOf, illNode, illFlow, firstIllNode, firstIllFlow, formed, accepts, stands, passesOf, callFault}
 use Rattle.counters.specs.Blocks.{block, withBlock, cellsOf, withCells, zeros}
-use Rattle.queues.specs.Cells.{moved, arrived, delivering, passed, step, waiting, delivered, arrivals, span}
+use Rattle.queues.specs.Cells.{moved, arrived, delivering, passed, step, waiting, delivered, arrivals, allButNewest, span}
 use Rattle.queues.specs.Pace.{All, Rising, Within}
 use Rattle.flow_checks.specs.Flows.{flowRuling, numberRuling}
 use Rattle.admission.specs.Calls.{change, admitRuling, admitOf, releaseRuling, releaseOf}
@@ -28,7 +27,7 @@ use Rattle.moves.specs.Moves.{recounted, cellsAfter}
 use Rattle.slot_checks.specs.Checks.{overflows, firstOverflow, unexpected, firstUnexpected, arrivalsRuling}
 use Rattle.simulation.specs.Slot.{slotRuling, slotOf, startRuling, startOf}
 use Rattle.guarantee.specs.Runs.{Call, slot, admit, State, Promise, called, Log, Run, none, then}
-use Rattle.guarantee.specs.Demand.{entered, slotsOf, Stays, NoStart, rateOf, boundOf, Begins, Allowed, WaitsJoined, Waits, Kept}
+use Rattle.guarantee.specs.Demand.{entered, slotsOf, Stays, NoStart, rateOf, boundOf, Begins, Allowed, Waits, JoinsIn, Joins, Kept}
 use Rattle.guarantee.proofs.Laws.{demand3, promised, admitted-kept}
 use Rattle.proved_examples.specs.Table.{readP}
 use Rattle.witness.specs.Lists.{played, stateP, arrivalsP, acceptedFrom, flowFive, mixed, admitted, half, mixedLog, sixteen, lone, loneLog, stateFive}
@@ -125,7 +124,7 @@ pub mixed-kept : Kept own 0 stateP (played mixed [] stateP .0) (played mixed [] 
 unfolding stateP
 mixed-kept = demand3 0 stateP _ _ (played-run stateP mixed [] stateP none) begins-p (rw (mixed-played .log) mixed-allowed)
 
-pub mixed-asked : total (drop (boundOf own readP 0 - 1) (arrivals (slotsOf 0 mixedLog))) ≡ 33
+pub mixed-asked : total (allButNewest (boundOf own readP 0 - 1) (arrivals (slotsOf 0 mixedLog))) ≡ 33
 unfolding total slotsOf entered arrivals
 mixed-asked = rw bound-p
 
@@ -144,7 +143,7 @@ lone-claimed =
 
 -- Because of the lone packet it is false that the arrivals of all accepted slots but the last G - 2 are always delivered.
 pub delay-tight : ((f : ℕ) (σ₀ : State) (l : Log) (σ : State) → Run own σ₀ l σ → Begins f σ₀ → Allowed f (σ₀ .site) l
-    → total (drop (boundOf own (σ₀ .site) f - 2) (arrivals (slotsOf f l))) ≤ delivered (cellsOf f (σ .counters))) → ⊥
+    → total (allButNewest (boundOf own (σ₀ .site) f - 2) (arrivals (slotsOf f l))) ≤ delivered (cellsOf f (σ .counters))) → ⊥
 unfolding stateP total slotsOf entered arrivals All Rising
 delay-tight claim =
     let w = claim 0 stateP _ _ (played-run stateP (lone 5) [] stateP none) begins-p (rw (lone-played .log) (lone-allowed 5 (omega arith) (omega arith))) in
@@ -163,18 +162,18 @@ seventeen =
 
 -- Demand 3 itself says that at most 21 wait in slot 16: its claim is no weaker than 01's.
 pub sixteen-claimed : waiting (arrived 3 (cellsOf 0 (played sixteen [] stateP .1 .counters))) ≤ 21
-unfolding stateP Waits WaitsJoined seventeen
+unfolding stateP Joins JoinsIn seventeen
 sixteen-claimed =
     let kept = demand3 0 stateP _ _ seventeen begins-p (rw (sixteen-played .log) seventeen-allowed) in
-    omega (arith, rw bound-p at (kept .waits .1))
+    omega (arith, rw bound-p at (kept .joins .0))
 
--- Because of the 21 packets it is false that at most rate × (G - 1) wait at every moment.
+-- Because of the 21 packets it is false that at most rate × (G - 1) wait in every accepted slot when its arrivals have just joined.
 pub waiting-tight : ((f : ℕ) (σ₀ : State) (l : Log) (σ : State) (run : Run own σ₀ l σ) → Begins f σ₀ → Allowed f (σ₀ .site) l
-    → Waits f (rateOf (σ₀ .site) f * (boundOf own (σ₀ .site) f - 1)) run) → ⊥
-unfolding stateP Waits WaitsJoined seventeen
+    → Joins f (rateOf (σ₀ .site) f * (boundOf own (σ₀ .site) f - 1)) run) → ⊥
+unfolding stateP Joins JoinsIn seventeen
 waiting-tight claim =
     let w = claim 0 stateP _ _ seventeen begins-p (rw (sixteen-played .log) seventeen-allowed) in
-    omega (arith, sixteen-played .wait, rw bound-p at (w .1))
+    omega (arith, sixteen-played .wait, rw bound-p at (w .0))
 
 -- Flow 5, which 02, U2, lets in, meets both bounds too. After its slots 2 to 4 nothing is delivered; in slot 5, when its arrivals have joined,
 -- 16 = rate × G wait, and all of them leave in that slot: link 2's width is just so many.

@@ -29,7 +29,7 @@ use Rattle.simulation.specs.Slot.{slotOf, startOf}
 use Rattle.moves.proofs.Laws.{length-along, width-exact}
 use Rattle.simulation.proofs.Laws.{slots-first, starts-first}
 use Rattle.guarantee.specs.Runs.{Call, slot, admit, release, start, State, Promise, checksOf, Log, Run, none, then}
-use Rattle.guarantee.specs.Demand.{entered, slotsOf, Stays, NoStart, rateOf, deadlineOf, boundOf, Begins, Allowed, Answered, WaitsJoined, Waits, Kept}
+use Rattle.guarantee.specs.Demand.{entered, slotsOf, Stays, NoStart, rateOf, deadlineOf, boundOf, Begins, Allowed, Answered, Waits, JoinsIn, Joins, Kept}
 use Rattle.guarantee.proofs.Laws.Frame.{Steady, Same, left}
 
 -- The newest call of a list adds its slot to those before it.
@@ -126,10 +126,10 @@ module _ (v : Service) (w : Steady v) (f : ℕ) (few : f < 64) (σ₀ : State) (
             (omega (arith, paced-all q 0 (slotsOf f l) (d .rated))),
       ))
 
-  waits-joined : {l : Log} {σ : State} (c : Call) (r : Ruling) → Run v σ₀ l σ → Allowed f (σ₀ .site) ((c, r) ∷ l)
-      → WaitsJoined f (rateOf (σ₀ .site) f * boundOf v (σ₀ .site) f) c r σ
-  unfolding WaitsJoined slotsOf entered arrivals total
-  waits-joined {l = l} (slot t xs) (accepted a) run d =
+  joined-in : {l : Log} {σ : State} (c : Call) (r : Ruling) → Run v σ₀ l σ → Allowed f (σ₀ .site) ((c, r) ∷ l)
+      → JoinsIn f (rateOf (σ₀ .site) f * boundOf v (σ₀ .site) f) c r σ
+  unfolding JoinsIn slotsOf entered arrivals total
+  joined-in {l = l} (slot t xs) (accepted a) run d =
       let q = rateOf (σ₀ .site) f in let o = allowed-before f (σ₀ .site) (slot t xs) (accepted a) l d in
       rw (cells-are run o)
       (omega (
@@ -137,16 +137,20 @@ module _ (v : Service) (w : Steady v) (f : ℕ) (few : f < 64) (σ₀ : State) (
         waiting-within q (paced q) (paced-curve q) (hopsOf v (σ₀ .site) f) (slotsOf f l) 0 (getD xs f 0) some short serve (o .rising)
             (omega (arith, paced-all q 0 _ (d .rated))),
       ))
-  waits-joined (slot t xs) (refused n p) run d = tt
-  waits-joined (admit g) r run d = tt
-  waits-joined (release m) r run d = tt
-  waits-joined start r run d = tt
+  joined-in (slot t xs) (refused n p) run d = tt
+  joined-in (admit g) r run d = tt
+  joined-in (release m) r run d = tt
+  joined-in start r run d = tt
 
   waits-all : {l : Log} {σ : State} (run : Run v σ₀ l σ) → Allowed f (σ₀ .site) l → Waits f (rateOf (σ₀ .site) f * boundOf v (σ₀ .site) f) run
   unfolding Waits
   waits-all none d = waits-after none d
-  waits-all (then {l = l} c r σ′ run p) d =
-      (waits-after (then c r σ′ run p) d, waits-joined c r run d, waits-all run (allowed-before f (σ₀ .site) c r l d))
+  waits-all (then {l = l} c r σ′ run p) d = (waits-after (then c r σ′ run p) d, waits-all run (allowed-before f (σ₀ .site) c r l d))
+
+  joins-all : {l : Log} {σ : State} (run : Run v σ₀ l σ) → Allowed f (σ₀ .site) l → Joins f (rateOf (σ₀ .site) f * boundOf v (σ₀ .site) f) run
+  unfolding Joins
+  joins-all none d = tt
+  joins-all (then {l = l} c r σ′ run p) d = (joined-in c r run d, joins-all run (allowed-before f (σ₀ .site) c r l d))
 
   pub demand3-any : boundOf v (σ₀ .site) f ≤ deadlineOf (σ₀ .site) f → {l : Log} {σ : State} (run : Run v σ₀ l σ) → Allowed f (σ₀ .site) l → Kept v f σ₀ l σ run
   demand3-any within {l} {σ} run d =
@@ -160,6 +164,7 @@ module _ (v : Service) (w : Steady v) (f : ℕ) (few : f < 64) (σ₀ : State) (
             (delivered-by q (paced q) (paced-curve q) (hopsOf v (σ₀ .site) f) (slotsOf f l) some short serve (d .rising)));
         deadline = within;
         waits = waits-all run d;
+        joins = joins-all run d;
       }
 
 -- The site's own schedule goes by its links.

@@ -12,7 +12,7 @@ use Rattle.lists.specs.Lists.{total}
 use Rattle.lists.proofs.Laws.Search.{lt-or-le}
 use Rattle.counters.specs.Blocks.{zeros}
 use Rattle.counters.proofs.Laws.{length-zeros}
-use Rattle.queues.specs.Cells.{Hop, Entry, moved, arrived, passed, step, steps, waiting, delivered, arrivals, span}
+use Rattle.queues.specs.Cells.{Hop, Entry, moved, arrived, passed, step, steps, waiting, delivered, arrivals, allButNewest, span}
 use Rattle.queues.specs.Pace.{Serves, All, Rising, Within, Curve, paced}
 use Rattle.queues.proofs.Laws.Cells.{final, final-rest, final-delivering, final-zeros, total-delivering, total-passed, total-arrived, total-steps}
 use Rattle.queues.proofs.Laws.Cells.{total-zeros, total-parts, length-arrived, length-steps, delivered-final, waiting-arrived}
@@ -173,7 +173,7 @@ module _ (rate : ℕ) (curve : List ℕ → ℕ) (c : Curve rate curve) where
 
   -- From nine zeros, after any slots whose numbers rise by one: what the curve had come to span - 1 slots ago is delivered.
   pub delivered-by : (hs : List Hop) (s : List Entry) → 1 ≤ length hs → length hs ≤ 8 → All (Serves rate) hs → Rising s
-      → curve (drop (span hs - 1) (arrivals s)) ≤ delivered (steps hs (zeros 9) s)
+      → curve (allButNewest (span hs - 1) (arrivals s)) ≤ delivered (steps hs (zeros 9) s)
   delivered-by [] s some few v r = absurd (omega arith)
   delivered-by (h ∷ hs) s some few v r =
       let n = nine-cells (h ∷ hs) s in
@@ -213,7 +213,7 @@ paced-curve rate = record { none = refl; rises = rises; slow = λ x xs. omega ar
     rises x xs = omega (arith, below xs)
 
 -- Where no slot brings more than the rate, it is all of them, whichever of the newest slots are left out.
-pub paced-all : (rate n : ℕ) (s : List Entry) → Within rate s → paced rate (drop n (arrivals s)) ≡ total (drop n (arrivals s))
+pub paced-all : (rate n : ℕ) (s : List Entry) → Within rate s → paced rate (allButNewest n (arrivals s)) ≡ total (allButNewest n (arrivals s))
 unfolding arrivals All paced total
 paced-all rate zero [] w = refl
 paced-all rate zero (e ∷ s) w = omega (arith, paced-all rate zero s (w .1), w .0)
