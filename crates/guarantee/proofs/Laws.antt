@@ -1,5 +1,6 @@
--- What is proved over lists of calls of any length, by the promises of the functions themselves: demand 3 of 01; that every list has a run; that check 14 and both round
--- trips hold after each, that a release leaves what a fresh plan would give, and that the reader and admission judge alike. The modules named here hold the lemmas.
+-- What is proved over lists of calls of any length, by the promises of the functions themselves: demand 3 of 01; that packets leave first come, first served; that every
+-- list has a run; that check 14 and both round trips hold after each, that a release leaves what a fresh plan would give, and that the reader and admission judge alike.
+-- The modules named here hold the lemmas.
 pub mod Frame
 pub mod Demand
 pub mod Reach
@@ -23,12 +24,15 @@ use Rattle.site.proofs.Laws.Flows.{live-with}
 use Rattle.site_check.specs.Check.{flowOf, passesOf}
 use Rattle.site_check.proofs.Laws.{passes-sound, flow-taken, bound-within}
 use Rattle.site_check.proofs.Laws.Flows.{live-few}
-use Rattle.counters.specs.Blocks.{cellsOf}
+use Rattle.counters.specs.Blocks.{cellsOf, zeros}
 use Rattle.counters.proofs.Laws.{length-zeros}
 use Rattle.queues.specs.Cells.{Entry, steps, arrivals, allButNewest}
 use Rattle.queues.specs.Pace.{All, Rising}
 use Rattle.queues.specs.Words.{HasLeft}
+use Rattle.queues.proofs.Laws.{left-slots}
+use Rattle.queues.proofs.Laws.Cells.{length-steps}
 use Rattle.queues.proofs.Laws.Delay.{span-some}
+use Rattle.queues.proofs.Laws.Packets.{cells-lengths, in-order, first-served, left-when}
 use Rattle.plan.proofs.Laws as plan
 use Rattle.plan_reader.specs.Read.{readOf}
 use Rattle.plan_writer.specs.Write.{flowBytes, flowIfLive, planBytes, bytesBefore, bytesBehind}
@@ -42,8 +46,8 @@ use Rattle.simulation.proofs.Laws.{slot-accepted, slot-refused, start-accepted,
 use Rattle.moves.proofs.Laws.{slot-cells}
 use Rattle.guarantee.specs.Runs.{Call, slot, admit, release, start, State, Promise, called, checksOf, Log, Run, none, then, admissions}
 use Rattle.guarantee.specs.Demand.{entered, slotsOf, Stays, NoStart, rateOf, deadlineOf, boundOf, Begins, Allowed, Answered, Kept, newest}
-use Rattle.guarantee.specs.Words.{Exchanged, nodesAlone}
-use Rattle.guarantee.proofs.Laws.Demand.{followed, demand3-any, own-steady, span-along, own-few, own-serves, own-some, own-short}
+use Rattle.guarantee.specs.Words.{Exchanged, nodesAlone, FirstServed}
+use Rattle.guarantee.proofs.Laws.Demand.{followed, cells-begun, demand3-any, own-steady, span-along, own-few, own-serves, own-some, own-short}
 use Rattle.guarantee.proofs.Laws.Reach.{below-none, below-all, below-passes, reach}
 
 -- G is the sum of the periods on the route, the bound that is printed; it is at least 1.
@@ -83,6 +87,19 @@ demand3 f σ₀ l σ run b d =
 pub cells-from : (f : ℕ) (σ₀ : State) (l : Log) (σ : State) → Run own σ₀ l σ → passesOf (σ₀ .site) ≡ true → live (σ₀ .site) f ≡ true
     → All (Stays f) l → All NoStart l → cellsOf f (σ .counters) ≡ steps (hopsOf own (σ₀ .site) f) (cellsOf f (σ₀ .counters)) (slotsOf f l)
 cells-from f σ₀ l σ run e on d u = followed own own-steady f (own-few (σ₀ .site) e f on) σ₀ on run d u .cells
+
+-- 01, One slot: each flow's packets leave first come, first served, whatever its rate and the slots' numbers are.
+pub served-in-order : (f : ℕ) (σ₀ : State) (l : Log) (σ : State) → Run own σ₀ l σ → Begins f σ₀ → All (Stays f) l → All NoStart l → FirstServed f σ₀ l σ
+served-in-order f σ₀ l σ run b d u =
+    let hs = hopsOf own (σ₀ .site) f in
+    let e = cells-begun own own-steady f (own-few (σ₀ .site) (b .passes) f (b .living)) σ₀ b run d u in
+    let some = own-some (σ₀ .site) (b .passes) f (b .living) in
+    let few = own-short (σ₀ .site) (b .passes) f (b .living) in record {
+      cells = cells-lengths hs (slotsOf f l) ∙ sym e;
+      served = rw e (first-served hs (slotsOf f l) some few);
+      order = in-order hs (slotsOf f l) some few;
+      left = λ n one. rw e (left-when hs (slotsOf f l) some few n one);
+    }
 
 -- All but some of the newest slots have at least the arrivals of the older ones.
 late-total : (n : ℕ) (newer older : List Entry) → n ≤ length newer → total (arrivals older) ≤ total (allButNewest n (arrivals (newer ++ older)))
@@ -216,6 +233,17 @@ start-unrefused v f σ₀ σ σ′ l run b number place p =
     let keeps = run-keeps v run in
     let rule : startRuling (σ .site) (σ .counters) ≡ refused number place = sym (ap (λ (q : Ruling × List ℕ). q .0) (p .0)) in
     refused-not _ rule (starts-when (σ .site) (σ .counters) .1 (keeps .1 (b .counted), passes-sound (σ .site) .0 (keeps .0 (b .passes))))
+
+-- A packet that has left after a list has still left after any further calls in which the flow stays admitted and no rehearsal starts anew.
+pub left-stays : (f n : ℕ) (σ₀ σ σ′ : State) (l l′ : Log) → Run own σ₀ l σ → Begins f σ₀ → All (Stays f) l → All NoStart l
+    → Run own σ l′ σ′ → All (Stays f) l′ → All NoStart l′ → HasLeft n (cellsOf f (σ .counters)) → HasLeft n (cellsOf f (σ′ .counters))
+left-stays f n σ₀ σ σ′ l l′ run b d u run′ d′ u′ left =
+    let small = own-few (σ₀ .site) (b .passes) f (b .living) in
+    let on : live (σ .site) f ≡ true = followed own own-steady f small σ₀ (b .living) run d u .flow .living ∙ b .living in
+    let e = run-passes own σ₀ σ l run (b .passes) in
+    let nine : length (cellsOf f (σ .counters)) ≡ 9 = rw (cells-begun own own-steady f small σ₀ b run d u) (length-steps _ (zeros 9) (slotsOf f l) ∙ length-zeros 9) in
+    rw (cells-from f σ l′ σ′ run′ e on d′ u′)
+    (left-slots (hopsOf own (σ .site) f) (slotsOf f l′) n _ nine (own-some (σ .site) e f on) (own-short (σ .site) e f on) left)
 
 -- After every list of calls, refused ones included, the plan bytes of a site that passed check 14 and the site turn into each other without change.
 pub calls-exchanged : (v : Service) (σ₀ σ : State) (l : Log) → Run v σ₀ l σ → passesOf (σ₀ .site) ≡ true → Exchanged (σ .site)

@@ -1,8 +1,9 @@
--- What is proved of one flow's queues: one slot in words, cell by cell. The modules named here hold what a slot does to the sum of the cells, and the
--- delay and the backlog
--- of a flow whose hops serve it: `delivered-by`, `waiting-after` and `waiting-within`, for any curve below its arrivals.
+-- What is proved of one flow's queues: one slot in words, cell by cell, and that a packet that has left stays so. The modules named here hold what a slot does to the
+-- sum of the cells; the delay and the backlog of a flow whose hops serve it, for any curve below its arrivals: `delivered-by`, `waiting-after` and `waiting-within`; and
+-- that packets leave first come, first served: `cells-lengths`, `in-order`, `first-served` and `left-when`.
 pub mod Cells
 pub mod Delay
+pub mod Packets
 use Prim.Native.Nat.{ℕ, zero, suc, _+_, _-_, _≤_, _<_}
 use mathlib.Core.Path.{_≡_, refl, sym, _∙_}
 use mathlib.Core.List.{List, [], _∷_}
@@ -11,9 +12,9 @@ use lib.ListN.{length, getD}
 use lib.Seq.{ext-getD}
 use native.Mathlib.Omega.{arith}
 use Rattle.lists.proofs.Laws.Search.{lt-or-le}
-use Rattle.queues.specs.Cells.{Hop, moved, arrived, delivering, passed, step, delivered}
-use Rattle.queues.specs.Words.{hopAt, held, movedTo, Stepped}
-use Rattle.queues.proofs.Laws.Cells.{length-arrived, length-step}
+use Rattle.queues.specs.Cells.{Hop, Entry, moved, arrived, delivering, passed, step, steps, delivered}
+use Rattle.queues.specs.Words.{hopAt, held, movedTo, Stepped, HasLeft}
+use Rattle.queues.proofs.Laws.Cells.{length-arrived, length-step, length-steps}
 
 -- Packets that are delivered change the last cell and no other.
 delivering-before : (n : ℕ) (cs : List ℕ) (k : ℕ) → k + 1 < length cs → getD (delivering n cs) k 0 ≡ getD cs k 0
@@ -107,3 +108,13 @@ module _ (hs : List Hop) (t x : ℕ) (cs : List ℕ) (nine : length cs ≡ 9) (s
       same w k l (inl m) n = step-is .queue k m ∙ sym (w .queue k m)
       same w k l (inr m) (inl n) = step-is .past k m n ∙ sym (w .past k m n)
       same w k l (inr m) (inr n) = let e : k ≡ 8 = omega (arith, step-is .nine) in rw e (step-is .count ∙ sym (w .count))
+
+-- 01: packet n of a flow has left once its delivered count is at least n. What has left stays so, in a slot and in a list of slots.
+pub left-slot : (hs : List Hop) (t x n : ℕ) (cs : List ℕ) → length cs ≡ 9 → 1 ≤ length hs → length hs ≤ 8 → HasLeft n cs → HasLeft n (step hs t x cs)
+left-slot hs t x n cs nine some few l = omega (arith, step-is hs t x cs nine some few .count)
+
+pub left-slots : (hs : List Hop) (s : List Entry) (n : ℕ) (cs : List ℕ) → length cs ≡ 9 → 1 ≤ length hs → length hs ≤ 8 → HasLeft n cs → HasLeft n (steps hs cs s)
+unfolding steps
+left-slots hs [] n cs nine some few l = l
+left-slots hs (e ∷ s) n cs nine some few l =
+    left-slot hs (e .number) (e .arrival) n (steps hs cs s) (length-steps hs cs s ∙ nine) some few (left-slots hs s n cs nine some few l)

@@ -1,3 +1,4 @@
 pub mod Cells
+pub mod Packets
 pub mod Pace
 pub mod Words

@@ -65,6 +65,11 @@ module _ (v : Service) (w : Steady v) (f : ℕ) (few : f < 64) (σ₀ : State) (
             cells = n .cells ∙ rw (i .flow .hops, i .cells) (steps-entered f c r _ _ (slotsOf f l));
           }
 
+-- From a beginning: the cells come from nine zeros.
+pub cells-begun : (v : Service) → Steady v → (f : ℕ) → f < 64 → (σ₀ : State) → Begins f σ₀ → {l : Log} {σ : State} → Run v σ₀ l σ → All (Stays f) l → All NoStart l
+    → cellsOf f (σ .counters) ≡ steps (hopsOf v (σ₀ .site) f) (zeros 9) (slotsOf f l)
+cells-begun v w f few σ₀ b run d u = rw (b .empty) at (followed v w f few σ₀ (b .living) run d u .cells)
+
 -- What is allowed of a list is allowed of the list without its newest call.
 rising-before : (f : ℕ) (c : Call) (r : Ruling) (s : List Entry) → Rising (entered f c r s) → Rising s
 unfolding entered
@@ -109,9 +114,7 @@ module _ (v : Service) (w : Steady v) (f : ℕ) (few : f < 64) (σ₀ : State) (
     (short : length (hopsOf v (σ₀ .site) f) ≤ 8) where
   cells-are : {l : Log} {σ : State} → Run v σ₀ l σ → Allowed f (σ₀ .site) l
       → cellsOf f (σ .counters) ≡ steps (hopsOf v (σ₀ .site) f) (zeros 9) (slotsOf f l)
-  cells-are {l = l} run d =
-      followed v w f few σ₀ (b .living) run (d .stays) (d .unbroken) .cells
-      ∙ ap (λ (cs : List ℕ). steps (hopsOf v (σ₀ .site) f) cs (slotsOf f l)) (b .empty)
+  cells-are run d = cells-begun v w f few σ₀ b run (d .stays) (d .unbroken)
 
   waits-after : {l : Log} {σ : State} → Run v σ₀ l σ → Allowed f (σ₀ .site) l
       → waiting (cellsOf f (σ .counters)) ≤ rateOf (σ₀ .site) f * boundOf v (σ₀ .site) f
