@@ -26,12 +26,12 @@ use Rattle.site_check.proofs.Laws.{passes-sound, flow-taken, bound-within}
 use Rattle.site_check.proofs.Laws.Flows.{live-few}
 use Rattle.counters.specs.Blocks.{cellsOf, zeros}
 use Rattle.counters.proofs.Laws.{length-zeros}
-use Rattle.queues.specs.Cells.{Entry, steps, arrivals, allButNewest}
+use Rattle.queues.specs.Cells.{Entry, steps, waiting, delivered, arrivals, allButNewest}
 use Rattle.queues.specs.Pace.{All, Rising}
 use Rattle.queues.specs.Words.{HasLeft}
 use Rattle.queues.proofs.Laws.{left-slots}
 use Rattle.queues.proofs.Laws.Cells.{length-steps}
-use Rattle.queues.proofs.Laws.Delay.{span-some}
+use Rattle.queues.proofs.Laws.Delay.{span-some, arrivals-kept}
 use Rattle.queues.proofs.Laws.Packets.{cells-lengths, in-order, first-served, left-when}
 use Rattle.plan.proofs.Laws as plan
 use Rattle.plan_reader.specs.Read.{readOf}
@@ -100,6 +100,13 @@ served-in-order f σ₀ l σ run b d u =
       order = in-order hs (slotsOf f l) some few;
       left = λ n one. rw e (left-when hs (slotsOf f l) some few n one);
     }
+
+-- 01, One slot: arrivals since a flow's admission equal its queues plus its delivered count, whatever its rate and the slots' numbers are.
+pub arrivals-held : (f : ℕ) (σ₀ : State) (l : Log) (σ : State) → Run own σ₀ l σ → Begins f σ₀ → All (Stays f) l → All NoStart l
+    → total (arrivals (slotsOf f l)) ≡ waiting (cellsOf f (σ .counters)) + delivered (cellsOf f (σ .counters))
+arrivals-held f σ₀ l σ run b d u =
+    rw (cells-begun own own-steady f (own-few (σ₀ .site) (b .passes) f (b .living)) σ₀ b run d u)
+    (arrivals-kept (hopsOf own (σ₀ .site) f) (slotsOf f l) (own-short (σ₀ .site) (b .passes) f (b .living)))
 
 -- All but some of the newest slots have at least the arrivals of the older ones.
 late-total : (n : ℕ) (newer older : List Entry) → n ≤ length newer → total (arrivals older) ≤ total (allButNewest n (arrivals (newer ++ older)))
