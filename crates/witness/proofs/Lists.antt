@@ -1,9 +1,11 @@
--- The premises of demand 3 hold of a list with every kind of call, so they do not exclude each other; and its bounds are met, so that no smaller ones hold.
-use Prim.Native.Nat.{ℕ, zero, suc, _-_, _*_, _≤_}
-use mathlib.Core.Path.{_≡_, refl}
+-- The premises of demand 3 hold of a list with admissions, releases and slots, accepted and refused ones of each, so they do not exclude each other; a start stands in
+-- no such list, since an accepted one begins the next and by `start-unrefused` none is refused. What demand 3 claims is used, each part of it, and its bounds are met,
+-- so that no smaller ones hold.
+use Prim.Native.Nat.{ℕ, zero, suc, _+_, _-_, _*_, _≤_}
+use mathlib.Core.Path.{_≡_, refl, sym, _∙_, ap}
 use mathlib.Core.List.{List, [], _∷_}
 use native.Mathlib.Omega.{arith}
-use Rattle.rulings.specs.Outcome.{accepted, checked, settled}
+use Rattle.rulings.specs.Outcome.{accepted, checked, settled, Ruled, nothing}
 use Rattle.lists.specs.Search.{last, first, any}
 use Rattle.lists.specs.Lists.{total, largest, least, smallest, joined, sumTo, listed, same}
 use Rattle.slot_rule.specs.Rule.{exponent, period, sum, limit, fits, base, periodsOf, sends, earlier, taken, freeOffset, turn, level, levels, offsetsFor}
@@ -18,7 +20,7 @@ use Rattle.judgement.specs.Judge.{reserved, judgeOf}
 use Rattle.limits.specs.Limits.{badNode, badFlow, nodeLimits, misplaced, flowLimits}
 use Rattle.site_check.specs.Check.{shaped, nodeOf, flowOf, illNode, illFlow, firstIllNode, firstIllFlow, formed, accepts, stands, passesOf, callFault}
 use Rattle.counters.specs.Blocks.{block, withBlock, cellsOf, withCells, zeros}
-use Rattle.queues.specs.Cells.{moved, arrived, delivering, passed, step, waiting, delivered, arrivals, allButNewest, span}
+use Rattle.queues.specs.Cells.{moved, arrived, delivering, passed, step, steps, waiting, delivered, arrivals, allButNewest, span}
 use Rattle.queues.specs.Pace.{All, Rising, Within}
 use Rattle.flow_checks.specs.Flows.{flowRuling, numberRuling}
 use Rattle.admission.specs.Calls.{change, admitRuling, admitOf, releaseRuling, releaseOf}
@@ -26,12 +28,12 @@ use Rattle.moves.specs.Hops.{own, hopsAlong, hopsOf}
 use Rattle.moves.specs.Moves.{recounted, cellsAfter}
 use Rattle.slot_checks.specs.Checks.{overflows, firstOverflow, unexpected, firstUnexpected, arrivalsRuling}
 use Rattle.simulation.specs.Slot.{slotRuling, slotOf, startRuling, startOf}
-use Rattle.guarantee.specs.Runs.{Call, slot, admit, State, Promise, called, Log, Run, none, then}
-use Rattle.guarantee.specs.Demand.{entered, slotsOf, Stays, NoStart, rateOf, boundOf, Begins, Allowed, Waits, JoinsIn, Joins, Kept}
+use Rattle.guarantee.specs.Runs.{Call, slot, admit, release, State, Promise, called, checksOf, Log, Run, none, then}
+use Rattle.guarantee.specs.Demand.{entered, slotsOf, Stays, NoStart, rateOf, boundOf, Begins, Allowed, Waits, JoinsIn, Joins, Answered, Kept}
 use Rattle.guarantee.proofs.Laws.{demand3, promised, admitted-kept}
 use Rattle.proved_examples.specs.Table.{readP}
-use Rattle.witness.specs.Lists.{played, stateP, arrivalsP, acceptedFrom, flowFive, mixed, admitted, half, mixedLog, sixteen, lone, loneLog, stateFive}
-use Rattle.witness.specs.Lists.{pacedSlots, pacedLog}
+use Rattle.witness.specs.Lists.{played, stateP, arrivalsP, acceptedFrom, flowFive, busy, mixed, admitted, half, busyLog, mixedLog, sixteen}
+use Rattle.witness.specs.Lists.{lone, loneLog, stateFive, pacedSlots, pacedLog}
 
 -- What is played is a run.
 pub played-run : (σ₀ : State) (cs : List Call) (l : Log) (σ : State) → Run own σ₀ l σ → Run own σ₀ (played cs l σ .0) (played cs l σ .1)
@@ -56,7 +58,8 @@ bound-p = refl
 
 -- The answers of the mixed list, and the cells that it leaves. These are the cells of the marked plan, so flow 5 has changed nothing.
 pub record MixedPlayed : Type 0 where
-  pub log : played mixed [] stateP .0 ≡ mixedLog
+  pub log : played busy [] stateP .0 ≡ busyLog
+  pub newest : called own (release 5) (played busy [] stateP .1) .0 ≡ accepted tt
   pub cells : cellsOf 0 (played mixed [] stateP .1 .counters) ≡ 3 ∷ 6 ∷ 0 ∷ 0 ∷ 0 ∷ 0 ∷ 0 ∷ 0 ∷ 42 ∷ []
 
 -- The lone packet of slot 10: not delivered after slot 15, and delivered after slot 16.
@@ -80,7 +83,7 @@ unfolding called played stateP moved arrived delivering passed step hopsAlong ho
     used gapsFrom gapsUnder rank assignedUnder baseOf baseUnder crowded firstCrowded entryAssigned listed offsetsAssigned periodsAssigned scheduled periodsJudged
     routeOf widthAt widthOn sumTo load over firstOver along late firstLate reserved judgeOf badNode badFlow nodeLimits misplaced flowLimits joined shaped nodeOf
     flowOf illNode illFlow firstIllNode firstIllFlow formed same accepts stands passesOf
-mixed-played = record { log = refl; cells = refl }
+mixed-played = record { log = refl; newest = refl; cells = refl }
 
 pub lone-played : LonePlayed
 unfolding called played stateP moved arrived delivering passed step hopsAlong hopsOf cellsOf linkSends recounted overflows firstOverflow unexpected firstUnexpected
@@ -115,18 +118,51 @@ calm-slots f (suc n) t xs l w = let more = calm-slots f n t xs l w in ((tt, more
 mixed-allowed : Allowed 0 readP mixedLog
 unfolding All Rising slotsOf entered Stays NoStart
 mixed-allowed =
-    let early = calm-slots 0 9 0 (arrivalsP 3 40) admitted ((tt, (tt, tt)), (tt, (tt, tt))) in
+    let early = calm-slots 0 9 0 (arrivalsP 3 40) admitted ((tt, (tt, (tt, tt))), (tt, (tt, (tt, tt)))) in
     let late = calm-slots 0 8 9 (arrivalsP 3 0) half ((tt, early .0), (tt, early .1)) in
     record { stays = (λ e. omega arith, late .0); unbroken = (tt, late .1); rising = omega arith; rated = omega arith }
 
--- .. and so all of demand 3. Of 51 arrivals it asks for 33 delivered, and 42 are.
-pub mixed-kept : Kept own 0 stateP (played mixed [] stateP .0) (played mixed [] stateP .1) (played-run stateP mixed [] stateP none)
-unfolding stateP
-mixed-kept = demand3 0 stateP _ _ (played-run stateP mixed [] stateP none) begins-p (rw (mixed-played .log) mixed-allowed)
+-- .. and so all of demand 3.
+pub mixedRun : Run own stateP mixedLog (played mixed [] stateP .1)
+unfolding played
+mixedRun =
+    then (release 5) (accepted tt) _ (rw (mixed-played .log) at (played-run stateP busy [] stateP none))
+    (rw (mixed-played .newest) at (promised own (release 5) (played busy [] stateP .1)))
 
+pub mixed-kept : Kept own 0 stateP mixedLog (played mixed [] stateP .1) mixedRun
+unfolding stateP
+mixed-kept = demand3 0 stateP mixedLog _ mixedRun begins-p mixed-allowed
+
+-- Of 51 arrivals it asks for 33 delivered, and 42 are.
 pub mixed-asked : total (allButNewest (boundOf own readP 0 - 1) (arrivals (slotsOf 0 mixedLog))) ≡ 33
 unfolding total slotsOf entered arrivals
 mixed-asked = rw bound-p
+
+-- What it says of this list in figures, each by the field of `Kept` that has its name.
+pub record MixedClaimed : Type 0 where
+  -- No check of the newest call fails, the release of flow 5;
+  pub answers : Ruled nothing (checksOf (release 5) (played busy [] stateP .1)) (accepted tt)
+  -- the rules of 'One slot' give the cells that are there;
+  pub cells : steps (hopsOf own readP 0) (zeros 9) (slotsOf 0 mixedLog) ≡ 3 ∷ 6 ∷ 0 ∷ 0 ∷ 0 ∷ 0 ∷ 0 ∷ 0 ∷ 42 ∷ []
+  -- of 51 arrivals those that are not delivered wait, 9;
+  pub all : 51 ≡ waiting (cellsOf 0 (played mixed [] stateP .1 .counters)) + 42
+  -- at least 33 are delivered;
+  pub delay : 33 ≤ delivered (cellsOf 0 (played mixed [] stateP .1 .counters))
+  -- G is within the deadline, 7;
+  pub deadline : boundOf own readP 0 ≤ 7
+  -- at most 21 wait after the newest call. That at most 21 wait when arrivals have just joined, `sixteen-claimed` says.
+  pub waits : waiting (cellsOf 0 (played mixed [] stateP .1 .counters)) ≤ 21
+
+pub mixed-claimed : MixedClaimed
+unfolding stateP Answered Waits mixedRun total slotsOf entered arrivals delivered
+mixed-claimed = record {
+  answers = mixed-kept .answers .0;
+  cells = sym (mixed-kept .cells) ∙ mixed-played .cells;
+  all = rw (ap (λ (cs : List ℕ). delivered cs) (mixed-played .cells)) at (mixed-kept .all);
+  delay = rw mixed-asked at (mixed-kept .delay);
+  deadline = mixed-kept .deadline;
+  waits = rw bound-p at (mixed-kept .waits .0);
+}
 
 lone-allowed : (n : ℕ) → Rising (slotsOf 0 (loneLog n)) → Within 3 (slotsOf 0 (loneLog n)) → Allowed 0 readP (loneLog n)
 unfolding All

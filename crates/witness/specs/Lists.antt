@@ -34,22 +34,28 @@ acceptedFrom (suc n) t xs l = (slot (t + n) xs, accepted tt) ∷ acceptedFrom n 
 abbrev pub flowFive : Flow
 flowFive = record { number = 5; entry = 2; rate = 4; deadline = 5 }
 
--- Flow 5 is admitted, and refused when it comes again; nine slots, in which it gets more than its rate; a slot with 63 arrivals, of any number, is refused; eight
--- slots more, the last of number 16; flow 5 is released. In every slot flow 0 gets its rate.
-abbrev pub mixed : List Call
-mixed =
-    admit flowFive ∷ admit flowFive
-    ∷ (slotsFrom 9 0 (arrivalsP 3 40) ++ (slot 77 (replicate 63 9) ∷ (slotsFrom 8 9 (arrivalsP 3 0) ++ (release 5 ∷ []))))
+-- Flow 5 is admitted, and refused when it comes again; flow 6, which is not live, is not released; nine slots, in which flow 5 gets more than its rate; a slot with 63
+-- arrivals, of any number, is refused; eight slots more, the last of number 16. In every slot flow 0 gets its rate. And then flow 5 is released.
+abbrev pub busy : List Call
+busy =
+    admit flowFive ∷ admit flowFive ∷ release 6
+    ∷ (slotsFrom 9 0 (arrivalsP 3 40) ++ (slot 77 (replicate 63 9) ∷ slotsFrom 8 9 (arrivalsP 3 0)))
 
--- Its log: the admissions; these, nine slots and the refused one; and all of it.
+abbrev pub mixed : List Call
+mixed = busy ++ (release 5 ∷ [])
+
+-- Its log: the calls before the slots; these, nine slots and the refused one; all before the release of flow 5; and all of it.
 abbrev pub admitted : Log
-admitted = (admit flowFive, refused 15 5) ∷ (admit flowFive, accepted tt) ∷ []
+admitted = (release 6, refused 16 6) ∷ (admit flowFive, refused 15 5) ∷ (admit flowFive, accepted tt) ∷ []
 
 abbrev pub half : Log
 half = (slot 77 (replicate 63 9), refused 1 0) ∷ acceptedFrom 9 0 (arrivalsP 3 40) admitted
 
+abbrev pub busyLog : Log
+busyLog = acceptedFrom 8 9 (arrivalsP 3 0) half
+
 abbrev pub mixedLog : Log
-mixedLog = (release 5, accepted tt) ∷ acceptedFrom 8 9 (arrivalsP 3 0) half
+mixedLog = (release 5, accepted tt) ∷ busyLog
 
 -- The slots 0 to 15 with three arrivals each.
 abbrev pub sixteen : List Call
