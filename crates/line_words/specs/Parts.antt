@@ -5,6 +5,7 @@ use mathlib.Core.Bool.{Bool, true, false, cond}
 use mathlib.Core.List.{List, [], _∷_}
 use lib.Dec.{eqb}
 use lib.ListN.{length, getD}
+use Rattle.lists.specs.Search.{firstIn}
 
 -- A byte before the first of some parts.
 unfoldable pub onto : ℕ → List (List ℕ) → List (List ℕ)
@@ -31,7 +32,11 @@ is byte c = eqb c byte
 unfoldable pub linesOf : List ℕ → List (List ℕ)
 linesOf text = parts (is 10) text
 
--- The first index from `from` on of a marked byte is r; where there is none, r is the text's length.
+-- The first index from `from` on of a marked byte, or the text's length where there is none.
+unfoldable pub reach : (ℕ → Bool) → List ℕ → ℕ → ℕ
+reach mark text from = firstIn (λ i. mark (getD text i 0)) (length text) (min from (length text))
+
+-- The same in words: r is that index, and no other (`reaches-once`).
 pub record Reaches (mark : ℕ → Bool) (text : List ℕ) (from r : ℕ) : Type 0 where
   pub onward : min from (length text) ≤ r
   pub within : r ≤ length text

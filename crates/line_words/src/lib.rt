@@ -1,11 +1,11 @@
 // Words of a line, and the decimal numbers among them.
 ghost use Prim.Native.Nat.{_≤_};
 ghost use mathlib.Core.Path.{_≡_};
-ghost use mathlib.Core.Bool.{false, cond};
+ghost use mathlib.Core.Bool.{cond};
 ghost use lib.ListN.{length, drop};
 ghost use Rattle.text.specs.Decimal.{valueOf, isNumber};
 ghost use Rattle.line_words.specs.Parts.{is, Reaches};
-ghost use Rattle.line_words.specs.Words.{isBlank, isLetter, wordsOf, none, operandOf, NextWord};
+ghost use Rattle.line_words.specs.Words.{isBlank, isLetter, wordsOf, none, operandOf, operandAt, NextWord};
 
 // A word from the index of its first byte to the index behind its last. Where there is none, both are the line's length.
 pub struct Word {
@@ -126,7 +126,7 @@ pub fn read_number(word: &[u8], most: u32) -> Number
 // The next word as a number of at most `most`. Where it is none, no operand can follow either: `next` is the line's length.
 pub fn next_operand(line: &[u8], from: usize, most: u32) -> Operand
     ensures { λ r. ⌜ ((r .given, r .value, wordsOf (drop (r .next) (now (line .entry)))) ≡ operandOf (wordsOf (drop from (now (line .entry)))) most)
-        × (r .value ≤ most) × (r .next ≤ length (now (line .entry))) × (r .given ≡ false → r .next ≡ length (now (line .entry))) ⌝ }
+        × (r .value ≤ most) × (r .next ≤ length (now (line .entry))) × (r ≡ operandAt (now (line .entry)) from most) ⌝ }
 {
     let word = next_word(line, from);
     let start = word.start;

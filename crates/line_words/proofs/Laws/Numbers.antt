@@ -6,12 +6,13 @@ use mathlib.Core.List.{List, [], _∷_}
 use lib.Dec.{eqb, ltb, leb}
 use lib.ListN.{length, getD, take, drop, drop-of-length-le}
 use lib.Seq.{drop-cons}
-use borrow.Author.Tests.{eqb-true, le-leb, lt-leb, leb-true, lt-ltb, not-true, not-false}
+use borrow.Author.Tests.{le-leb, lt-leb, leb-true, lt-ltb, not-true, not-false}
 use native.Mathlib.Numerals.{add-one}
 use native.Mathlib.Omega.{arith}
 use Rattle.text.specs.Decimal.{valueFrom, valueOf, isDigit, allDigits, given, isNumber}
-use Rattle.line_words.specs.Words.{wordsOf, operandOf, NextWord}
-use Rattle.line_words.proofs.Laws.Words.{words-end}
+use Rattle.line_words.specs.declared.Operand.{Operand}
+use Rattle.line_words.specs.Words.{wordsOf, operandOf, wordStart, wordEnd, wordAt, operandAt, NextWord}
+use Rattle.line_words.proofs.Laws.Words.{words-end, word-at-is, first-word}
 
 -- The first i bytes of a word are digits that say `value`: what the others say after it is what the word says.
 pub record Reads (word : List ℕ) (most i value : ℕ) : Type 0 where
@@ -104,33 +105,53 @@ module _ (word : List ℕ) (most : ℕ) where
       go [] e = (refl, e)
       go (c ∷ cs) e = (lt-ltb 0 (suc (length cs)) (omega arith), e)
 
--- The next word of a line, read as a number, is the operand that the definition takes from the words of the line.
+-- The next word of a line, read as a number, is the operand of the definition, with the index behind that word.
 module _ (line : List ℕ) (from start end most : ℕ) (w : NextWord line from start end) (g : Bool) (v : ℕ)
     (read : (g ≡ isNumber (take (end - start) (drop start line)) most)
     × (v ≡ cond (isNumber (take (end - start) (drop start line)) most) (valueOf (take (end - start) (drop start line))) 0)) where
-  pub operand-none : not g ≡ true → (false, 0, wordsOf (drop (length line) line)) ≡ operandOf (wordsOf (drop from line)) most
-  unfolding operandOf
-  operand-none n = rw (words-end line (length line) (omega arith), w .words) (go (eqb start end))
+  word-is : take (end - start) (drop start line) ≡ wordAt line from
+  unfolding wordAt
+  word-is = rw (w .begins, w .ends)
+
+  pub operand-none : not g ≡ true → record { given = false; value = 0; next = length line } ≡ operandAt line from most
+  unfolding operandAt
+  operand-none n = sym (rw (ap (λ (word : List ℕ). isNumber word most) (sym word-is) ∙ sym (read .0) ∙ not-true g n))
+
+  pub operand-some : not g ≡ false → record { given = true; value = v; next = end } ≡ operandAt line from most
+  unfolding operandAt
+  operand-some n =
+      let number : isNumber (take (end - start) (drop start line)) most ≡ true = sym (read .0) ∙ not-false g n in
+      rw (read .1, number, word-is, w .ends) (sym (rw (ap (λ (word : List ℕ). isNumber word most) (sym word-is) ∙ number)))
+
+-- What that is in the words of the line: its number is the first of them, and the others stand behind it.
+module _ (line : List ℕ) (from most : ℕ) where
+  read-none : isNumber (wordAt line from) most ≡ false → operandOf (wordsOf (drop from line)) most ≡ (false, 0, [])
+  unfolding operandOf wordAt
+  read-none f = rw (word-at-is line from .words) (go (eqb (wordStart line from) (wordEnd line from)))
     where
-      go : (b : Bool) → (false, 0, []) ≡ operandOf (cond b [] (take (end - start) (drop start line) ∷ wordsOf (drop end line))) most
+      go : (b : Bool) → operandOf (cond b [] (wordAt line from ∷ wordsOf (drop (wordEnd line from) line))) most ≡ (false, 0, [])
       go true = refl
-      go false = rw (sym (read .0) ∙ not-true g n)
+      go false = rw f
 
-  is-number : not g ≡ false → isNumber (take (end - start) (drop start line)) most ≡ true
-  is-number n = sym (read .0) ∙ not-false g n
-
-  is-value : not g ≡ false → v ≡ valueOf (take (end - start) (drop start line))
-  is-value n = read .1 ∙ rw (is-number n)
-
-  pub operand-small : not g ≡ false → v ≤ most
-  operand-small n = omega (arith, is-value n, number-small (take (end - start) (drop start line)) most (is-number n))
-
-  pub operand-some : not g ≡ false → (true, v, wordsOf (drop end line)) ≡ operandOf (wordsOf (drop from line)) most
-  unfolding operandOf isNumber given
-  operand-some n = rw (is-value n, w .words) (go (eqb start end) refl)
+  read-some : isNumber (wordAt line from) most ≡ true
+      → operandOf (wordsOf (drop from line)) most ≡ (true, valueOf (wordAt line from), wordsOf (drop (wordEnd line from) line))
+  unfolding operandOf wordAt isNumber given
+  read-some t = rw (first-word line from _ _ (word-at-is line from) apart, t)
     where
-      go : (b : Bool) → eqb start end ≡ b
-          → (true, valueOf (take (end - start) (drop start line)), wordsOf (drop end line))
-          ≡ operandOf (cond b [] (take (end - start) (drop start line) ∷ wordsOf (drop end line))) most
-      go true same = let none : end - start ≡ 0 = omega (arith, eqb-true start end same) in absurd (true≢false (sym (is-number n) ∙ rw none))
-      go false same = rw (is-number n)
+      apart : wordStart line from ≡ wordEnd line from → ⊥
+      apart q = let none : wordEnd line from - wordStart line from ≡ 0 = omega arith in true≢false (sym t ∙ rw none)
+
+  pub operand-told : (r : Operand) → r ≡ operandAt line from most
+      → ((r .given, r .value, wordsOf (drop (r .next) line)) ≡ operandOf (wordsOf (drop from line)) most)
+      × (r .value ≤ most) × (r .next ≤ length line) × (r ≡ operandAt line from most)
+  unfolding operandAt
+  operand-told r e = rw e (go (isNumber (wordAt line from) most) refl)
+    where
+      operand : Bool → Operand
+      operand b = cond b (record { given = true; value = valueOf (wordAt line from); next = wordEnd line from }) (record { given = false; value = 0; next = length line })
+
+      go : (b : Bool) → isNumber (wordAt line from) most ≡ b
+          → ((operand b .given, operand b .value, wordsOf (drop (operand b .next) line)) ≡ operandOf (wordsOf (drop from line)) most)
+          × (operand b .value ≤ most) × (operand b .next ≤ length line) × (operand b ≡ operand b)
+      go true t = (sym (read-some t), number-small (wordAt line from) most t, word-at-is line from .within, refl)
+      go false f = (rw (words-end line (length line) (omega arith)) (sym (read-none f)), omega arith, omega arith, refl)

@@ -1,7 +1,7 @@
 -- Text taken apart by a scan that stops at the first marked byte.
-use Prim.Native.Nat.{ℕ, zero, suc, _+_, _-_, _≤_, _<_}
+use Prim.Native.Nat.{ℕ, zero, suc, _+_, _-_, _≤_, _<_, min}
 use mathlib.Core.Path.{_≡_, refl, sym, _∙_, ap}
-use mathlib.Core.Bool.{Bool, true, false, not, _&&_, true≢false}
+use mathlib.Core.Bool.{Bool, true, false, cond, not, _&&_, true≢false}
 use mathlib.Core.List.{List, [], _∷_, _++_, append-nil}
 use lib.ListN.{length, getD, take, drop, drop-of-length-le}
 use lib.Seq.{drop-cons}
@@ -9,7 +9,20 @@ use native.Mathlib.Nat.{eq-or-lt-of-le, add-zero}
 use mathlib.Core.Logic.{_⊎_, inl, inr}
 use native.Mathlib.Numerals.{add-one}
 use native.Mathlib.Omega.{arith}
-use Rattle.line_words.specs.Parts.{onto, parts, firstPart, before, Reaches}
+use Rattle.lists.specs.Search.{first}
+use Rattle.lists.proofs.Laws.Search.{lt-or-le, first-passes, first-before}
+use Rattle.line_words.specs.Parts.{onto, parts, firstPart, before, reach, Reaches}
+
+-- A search ends from where it starts on, and not behind the numbers that it looks at.
+pub first-bounds : (p : ℕ → Bool) (r c : ℕ) → (c ≤ first p r c) × (first p r c ≤ c + r)
+unfolding first
+first-bounds p zero c = (omega arith, omega arith)
+first-bounds p (suc r) c = go (p c) (first-bounds p r (c + 1))
+  where
+    go : (t : Bool) → (c + 1 ≤ first p r (c + 1)) × (first p r (c + 1) ≤ c + 1 + r)
+        → (c ≤ cond t c (first p r (c + 1))) × (cond t c (first p r (c + 1)) ≤ c + suc r)
+    go true w = (omega arith, omega arith)
+    go false w = (omega (arith, w .0), omega (arith, w .1))
 
 -- No byte from `from` up to `at` is marked.
 pub record Passes (mark : ℕ → Bool) (text : List ℕ) (from at : ℕ) : Type 0 where
@@ -32,6 +45,31 @@ module _ (mark : ℕ → Bool) (text : List ℕ) (from : ℕ) where
 
   pub reaches-end : (at : ℕ) → Passes mark text from at → length text ≤ at → Reaches mark text from (length text)
   reaches-end at p l = record { onward = omega arith; within = omega arith; passed = λ i a b. p .none i a (omega arith); marked = λ m. absurd (omega arith) }
+
+  -- The words of `Reaches` hold of the index that the definition gives, and of no other.
+  pub reach-reaches : Reaches mark text from (reach mark text from)
+  unfolding reach
+  reach-reaches =
+      let p : ℕ → Bool = λ i. mark (getD text i 0) in
+      let c : ℕ = min from (length text) in
+      let bounds = first-bounds p (length text - c) c in
+      record {
+        onward = bounds .0;
+        within = omega (arith, bounds .1);
+        passed = λ i a b. first-before p (length text - c) c i (omega arith) b;
+        marked = λ l. first-passes p (length text - c) c (omega arith);
+      }
+
+  pub reaches-once : (r q : ℕ) → Reaches mark text from r → Reaches mark text from q → r ≡ q
+  reaches-once r q v w = go (lt-or-le r q) (lt-or-le q r)
+    where
+      apart : (a b : ℕ) → Reaches mark text from a → Reaches mark text from b → a < b → ⊥
+      apart a b v w l = true≢false (sym (v .marked (omega (arith, w .within))) ∙ w .passed a (omega (arith, v .onward, w .within)) l)
+
+      go : (r < q) ⊎ (q ≤ r) → (q < r) ⊎ (r ≤ q) → r ≡ q
+      go (inl l) m = absurd (apart r q v w l)
+      go (inr l) (inl m) = absurd (apart q r w v m)
+      go (inr l) (inr m) = omega arith
 
   -- The unmarked bytes before a part are its front.
   run : (n f : ℕ) → f + n ≤ length text → ((i : ℕ) → f ≤ i → i < f + n → mark (getD text i 0) ≡ false) → (ps : List (List ℕ))

@@ -1,6 +1,6 @@
 -- The words that stand in a line from an index on.
 use Prim.Native.Nat.{ℕ, zero, suc, _+_, _-_, _≤_, _<_}
-use mathlib.Core.Path.{_≡_, refl, sym, _∙_}
+use mathlib.Core.Path.{_≡_, refl, sym, _∙_, ap}
 use mathlib.Core.Bool.{true, false, true≢false}
 use mathlib.Core.List.{List, [], _∷_}
 use mathlib.Core.Logic.{inl, inr}
@@ -12,9 +12,9 @@ use native.Mathlib.Nat.{eq-or-lt-of-le}
 use native.Mathlib.Decide.{decLt}
 use native.Mathlib.Numerals.{add-one}
 use native.Mathlib.Omega.{arith}
-use Rattle.line_words.specs.Parts.{onto, parts, firstPart, Reaches}
-use Rattle.line_words.specs.Words.{isBlank, isLetter, nonempty, wordsOf, none, NextWord}
-use Rattle.line_words.proofs.Laws.Parts.{parts-marked, parts-last}
+use Rattle.line_words.specs.Parts.{onto, parts, firstPart, reach, Reaches}
+use Rattle.line_words.specs.Words.{isBlank, isLetter, nonempty, wordsOf, none, wordStart, wordEnd, NextWord}
+use Rattle.line_words.proofs.Laws.Parts.{reach-reaches, reaches-once, parts-marked, parts-last}
 
 -- A part that has a byte is a word.
 part-word : (k : ℕ) (xs : List ℕ) (ps : List (List ℕ)) → 0 < k → 0 < length xs → nonempty (take k xs ∷ ps) ≡ take k xs ∷ nonempty ps
@@ -78,9 +78,21 @@ module _ (line : List ℕ) where
       first : (ps : List (List ℕ)) → nonempty (take (end - start) (drop start line) ∷ ps) ≡ take (end - start) (drop start line) ∷ nonempty ps
       first ps = part-word (end - start) (drop start line) ps (omega arith) (rw (length-drop start line) (omega arith))
 
+  -- Two scans find it where the definition has it.
+  begins-at : (from start : ℕ) → Reaches isLetter line from start → start ≡ wordStart line from
+  unfolding wordStart
+  begins-at from start a = reaches-once isLetter line from start _ a (reach-reaches isLetter line from)
+
+  ends-at : (from start end : ℕ) → Reaches isLetter line from start → Reaches isBlank line start end → end ≡ wordEnd line from
+  unfolding wordEnd
+  ends-at from start end a b =
+      reaches-once isBlank line start end _ b (reach-reaches isBlank line start) ∙ ap (λ (k : ℕ). reach isBlank line k) (begins-at from start a)
+
   pub word-found : (from start end : ℕ) → Reaches isLetter line from start → Reaches isBlank line start end → NextWord line from start end
   word-found from start end a b = elim (eq-or-lt-of-le {n = start} {m = length line} (a .within)) [
     | inl q ↦ record {
+      begins = begins-at from start a;
+      ends = ends-at from start end a b;
       onward = a .onward;
       ordered = omega (arith, b .onward);
       within = b .within;
@@ -90,6 +102,8 @@ module _ (line : List ℕ) where
     | inr l ↦
         let m : start < end = longer start end l (not-true _ (a .marked l)) b in
         record {
+          begins = begins-at from start a;
+          ends = ends-at from start end a b;
           onward = a .onward;
           ordered = omega arith;
           within = b .within;
@@ -97,6 +111,10 @@ module _ (line : List ℕ) where
           last = λ e. absurd (omega (arith, m, e));
         }
   ]
+
+  pub word-at-is : (from : ℕ) → NextWord line from (wordStart line from) (wordEnd line from)
+  unfolding wordStart wordEnd
+  word-at-is from = word-found from _ _ (reach-reaches isLetter line from) (reach-reaches isBlank line (wordStart line from))
 
   -- No word is left just where the scan for one ends with the line.
   pub none-found : (from r : ℕ) → Reaches isLetter line from r → eqb r (length line) ≡ none (wordsOf (drop from line))

@@ -1,9 +1,6 @@
 -- Right because the word found is the first that is left, and its number is the operand; without one nothing of the line is left.
 use borrow.Author.Needs.{needs}
-use mathlib.Core.Path.{refl}
-use mathlib.Core.Bool.{true≢false}
-use native.Mathlib.Omega.{arith}
-use Rattle.line_words.proofs.Laws.Numbers.{operand-none, operand-some, operand-small}
+use Rattle.line_words.proofs.Laws.Numbers.{operand-told, operand-none, operand-some}
 use Rattle.line_words.proofs.next_operand.Statement.{statement}
 use Rattle.line_words.proofs.next_operand.Tie as tie
 
@@ -23,18 +20,14 @@ read-number-requires : tie.Need-read-number-requires
 read-number-requires c κs = search needs
 
 returns : tie.Need-returns
-returns c = (
-  operand-none _ _ _ _ _ (c .before .before .before .before .next-word .ensures) _ _ (c .before .before .read-number .ensures) (c .if1 .taken),
-  omega arith,
-  omega arith,
-  λ e. refl,
-)
+returns c =
+    operand-told _ _ _ _
+    (operand-none _ _ _ _ _ (c .before .before .before .before .next-word .ensures) _ _ (c .before .before .read-number .ensures) (c .if1 .taken))
 
 returns-2 : tie.Need-returns-2
 returns-2 c =
-    let word = c .before .before .before .before .next-word .ensures in
-    let read = c .before .before .read-number .ensures in
-    (operand-some _ _ _ _ _ word _ _ read (c .if1 .left), operand-small _ _ _ _ _ word _ _ read (c .if1 .left), word .within, λ e. absurd (true≢false e))
+    operand-told _ _ _ _
+    (operand-some _ _ _ _ _ (c .before .before .before .before .next-word .ensures) _ _ (c .before .before .read-number .ensures) (c .if1 .left))
 
 pub next-operand-spec : {M : Type 1} → statement M
 next-operand-spec =

@@ -1,7 +1,7 @@
 -- Lines and numbers: what each step of a search leaves, and that what is found lies behind the start and within the line.
-use Prim.Native.Nat.{ℕ, zero, suc, _+_, _-_, _*_, _^_, _≤_, _<_}
+use Prim.Native.Nat.{ℕ, suc, _+_, _-_, _*_, _^_, _≤_, _<_}
 use mathlib.Core.Path.{_≡_, refl, sym, _∙_, ap}
-use mathlib.Core.Bool.{Bool, true, false, cond, not}
+use mathlib.Core.Bool.{Bool, true, false, not}
 use mathlib.Core.List.{List, [], _∷_}
 use mathlib.Core.Logic.{inl, inr}
 use lib.Dec.{eqb}
@@ -14,6 +14,7 @@ use native.Mathlib.Omega.{arith}
 use Rattle.lists.specs.Search.{first}
 use Rattle.lists.proofs.Laws.Search.{lt-or-le, first-miss, first-passes}
 use Rattle.text.specs.Decimal.{isDigit, valueFrom, valueOf}
+use Rattle.line_words.proofs.Laws.Parts.{first-bounds}
 use Rattle.testlib_text.specs.declared.Number.{Number}
 use Rattle.testlib_text.specs.declared.Change.{Change}
 use Rattle.testlib_text.specs.Lines.{behindLine, beginsWith, indexFrom, scanned, numberStart, numberEnd, decimalAt, numberFrom, numberAfter, changeOf, changeFrom}
@@ -43,17 +44,7 @@ module _ (text : List ℕ) (n : ℕ) where
   unfolding behindLine
   behind-shorter rest e l = rw e (simp length-drop (omega arith))
 
--- A search ends from where it starts on, and not behind the numbers that it looks at.
-first-bounds : (p : ℕ → Bool) (r c : ℕ) → (c ≤ first p r c) × (first p r c ≤ c + r)
-unfolding first
-first-bounds p zero c = (omega arith, omega arith)
-first-bounds p (suc r) c = go (p c) (first-bounds p r (c + 1))
-  where
-    go : (t : Bool) → (c + 1 ≤ first p r (c + 1)) × (first p r (c + 1) ≤ c + 1 + r)
-        → (c ≤ cond t c (first p r (c + 1))) × (cond t c (first p r (c + 1)) ≤ c + suc r)
-    go true w = (omega arith, omega arith)
-    go false w = (omega (arith, w .0), omega (arith, w .1))
-
+-- What a search over the bytes of a line finds lies behind its start and within the line.
 module _ (p : ℕ → Bool) (bytes : List ℕ) (start : ℕ) where
   index-from : start ≤ indexFrom p bytes start
   index-from = first-bounds (λ i. p (getD bytes i 0)) (length bytes - start) start .0
