@@ -23,7 +23,7 @@ use Rattle.site.specs.Sites.{live, withFlow, withoutFlow}
 use Rattle.schedule.specs.Schedule.{linkSends}
 use Rattle.reservations.specs.Reservations.{periodsJudged, routeOf, widthAt, load, along, delayBound}
 use Rattle.tree.specs.Words.{Leads}
-use Rattle.schedule.specs.Words.{Wellgapped}
+use Rattle.schedule.specs.Words.{Wellgapped, ChildSlots}
 use Rattle.schedule.proofs.Laws as slots
 use Rattle.tree.proofs.Laws.Tree.{route-leads, route-falls}
 use Rattle.limits.specs.Limits.{badFlow, misplaced, flowLimits}
@@ -105,6 +105,10 @@ module _ {A : Type 0} (gives : A → Type 0) (o : Outcome A) (rest : Outcome A) 
 module _ (s : Site) (e : passesOf s ≡ true) where
   sound : Sound s
   sound = passes-sound s .0 e
+
+  -- It has the schedule of the words: under every parent its children, in their order, have what the slot rule gives the gaps that they want.
+  pub passes-slots : ChildSlots s (s .offsets) (s .periods)
+  passes-slots = let h = sound-timed s sound in slots.child-slots s (h .few) (h .gapped) (h .below) (h .served) _ _ .0 (h .offsets, h .periods)
 
   -- 01, The site: two links of one parent share no slot.
   pub siblings-apart : (n m t : ℕ) → (n ≡ m → ⊥) → ofLink (s .parents) n ≡ ofLink (s .parents) m
