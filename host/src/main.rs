@@ -9,14 +9,17 @@ mod random;
 #[cfg(test)]
 mod repository;
 mod second;
+mod statements;
 
+use commands::statements::check_statements;
 use commands::{bad_hosts, bench, compare, compare_library, expected};
 use std::path::Path;
 use std::process::ExitCode;
 
 const USAGE: &str =
     "host bad-hosts N SEED\nhost bench [growth]\nhost expected [--write]\nhost library N SEED\n\
-    host random N SEED [--bin DIR]\nhost repeat ROW SITE rattle|rust N\nhost watch N SEED";
+    host random N SEED [--bin DIR]\nhost repeat ROW SITE rattle|rust N\n\
+    host statements [--write]\nhost watch N SEED";
 
 /// A command that takes how many inputs to make, and from which seed.
 fn seeded(count: &str, seed: &str, command: impl Fn(u64, u64) -> u8) -> Option<u8> {
@@ -43,6 +46,8 @@ fn status(words: &[&str]) -> Option<u8> {
         ["repeat", row, site, implementation, count] => {
             bench::repeat(row, site, implementation, count)
         }
+        ["statements"] => Some(check_statements(false)),
+        ["statements", "--write"] => Some(check_statements(true)),
         ["watch", count, seed] => seeded(count, seed, compare::watch_random),
         _ => None,
     }

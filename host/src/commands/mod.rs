@@ -10,4 +10,5 @@ pub mod expected;
 pub mod outcomes;
 pub mod rehearsal;
 pub mod shrink;
+pub mod statements;
 pub mod watch;

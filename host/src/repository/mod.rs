@@ -1,4 +1,4 @@
-//! Tests of the repository: its samples, its guide for planners, the built programs, its gate, and what its pages count.
+//! Tests of the repository: its samples, its guide for planners, the built programs, its gate, what its pages count, and its statements.
 
 pub mod built;
 mod gate;
@@ -6,4 +6,5 @@ mod guide;
 mod habits;
 pub mod places;
 mod samples;
+mod statements;
 mod trust;
