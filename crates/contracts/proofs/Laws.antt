@@ -1,22 +1,37 @@
 -- The contracts themselves, as the checker reads them, give the equations that claims cite, with all memory lent: of the operations of 01 and 02, of both
--- checks 14, of the judgement, of `loads` and G, of the reading that fills in loads, and of each exported function of the library. `a` holds what is handed
--- in, in the order of the parameters, and `x` what is lent as the call leaves it. A contract that says less gives its law no more.
-use mathlib.Core.Path.{_≡_}
+-- checks 14, of the judgement, of `loads` and G, of the reading that fills in loads, of what programs print, and of a rehearsal. Those of the calls that
+-- lists are made of are the very steps of a run. `a` holds what is handed in, in the order of the parameters, and `x` what is lent as the call leaves it. A
+-- contract that says less gives its law no more. The laws of the library's exported functions stand in `slotplan_lib`.
+use mathlib.Core.Path.{_≡_, refl}
 use Rattle.rulings.specs.Outcome.{ruling, settled}
 use Rattle.judgement.specs.Judge.{withSite, judgeOf}
 use Rattle.plan_reader.specs.Read.{readOf}
-use Rattle.slices.specs.Written.{writing}
+use Rattle.slices.specs.Written.{writing, written}
 use Rattle.site_check.specs.Check.{passesOf, writtenIf}
 use Rattle.plan_writer.specs.Write.{planBytes}
 use Rattle.schedule_check.specs.Schedules.{ofLists}
 use Rattle.schedule_check.specs.Check.{schedulePasses}
 use Rattle.schedule_reader.specs.Read.{withLinks, scheduleRead}
 use Rattle.schedule_writer.specs.Write.{scheduleOf, scheduleBytes, scheduleWritten}
-use Rattle.admission.specs.Calls.{admitOf, releaseOf}
 use Rattle.sender.specs.Sender.{found, senderOf}
 use Rattle.moves.specs.Hops.{own}
-use Rattle.simulation.specs.Slot.{slotOf, startOf}
+use Rattle.guarantee.specs.Runs.{slot, admit, release, start, Promise}
 use Rattle.pinwheel.specs.Answers.{outcome}
+use Rattle.site_report.specs.Report.{reportOf}
+use Rattle.schedule_report.specs.Report.{scheduleReportOf}
+use Rattle.plan_listing.specs.Listing.{listingOf}
+use Rattle.typed_plan.specs.Assemble.{assembledOf}
+use Rattle.call_text.specs.Lines.{askedOf}
+use Rattle.line_answers.specs.Steps.{callOf, answeredTo, Gives}
+use Rattle.rehearsal.proofs.Laws.Typing.{AllTaken}
+use Rattle.site_report.proofs.report.Reads as reports
+use Rattle.schedule_report.proofs.report_schedule.Reads as schedule-reports
+use Rattle.plan_listing.proofs.list_plan.Reads as listings
+use Rattle.typed_plan.proofs.assemble.Reads as assemblies
+use Rattle.call_text.proofs.read_line.Reads as lines
+use Rattle.line_answers.proofs.make_call.Reads as made
+use Rattle.line_answers.proofs.answer_line.Reads as answers
+use Rattle.rehearsal.proofs.take_up.Reads as taken
 use Rattle.pinwheel.proofs.assign.Reads as slot-rules
 use Rattle.bounds.proofs.delay_bound.Reads as delays
 use Rattle.judgement.proofs.judge.Reads as judgements
@@ -36,22 +51,7 @@ use Rattle.simulation.proofs.start.Reads as begun
 use Rattle.simulation.proofs.slot.Reads as moved
 use Rattle.slot_rule.specs.Assign.{assigned}
 use Rattle.reservations.specs.Reservations.{loadsOf, delayBound}
-use Rattle.host_answers.specs.Answers.{told}
-use Rattle.host_calls.specs.Calls.{planReadFrom, scheduleFrom, startFrom, slotFrom, senderFrom, boundFrom}
-use Rattle.host_changes.specs.Changes.{admitFrom, releaseFrom}
-use Rattle.host_lists.specs.Lists.{scheduleReadFrom, scheduleWrittenFrom}
 use Rattle.link_loads.proofs.loads.Reads as loads
-use Rattle.slotplan_lib.proofs.slotplan_read_plan.Reads as reads
-use Rattle.slotplan_lib.proofs.slotplan_schedule.Reads as schedules
-use Rattle.slotplan_lib.proofs.slotplan_read_schedule.Reads as files
-use Rattle.slotplan_lib.proofs.slotplan_write_schedule.Reads as writes
-use Rattle.slotplan_lib.proofs.slotplan_admit.Reads as admits
-use Rattle.slotplan_lib.proofs.slotplan_release.Reads as releases
-use Rattle.slotplan_lib.proofs.slotplan_start.Reads as starts
-use Rattle.slotplan_lib.proofs.slotplan_slot.Reads as slots
-use Rattle.slotplan_lib.proofs.slotplan_sender.Reads as senders
-use Rattle.slotplan_lib.proofs.slotplan_bound.Reads as bounds
-use Rattle.slotplan_lib.proofs.slotplan_assign.Reads as assigns
 
 pub slot-ruling : (κs : _) (a : _) (r : _) (x : _) → slot-rules.Post κs a r x
     → (outcome r, x .1 .0 .now, x .1 .1 .0 .now) ≡ assigned 2 (a .0 .now) (a .1 .0 .now) (a .1 .1 .0 .now)
@@ -95,63 +95,61 @@ pub lists-writing : (κs : _) (a : _) (r : _) (x : _) → listed-schedules.Post 
 lists-writing κs a r x p = p
 
 pub admitting : (κs : _) (a : _) (r : _) (x : _) → admissions.Post κs a r x
-    → (ruling (r .verdict), r .site, x .1 .0 .now) ≡ admitOf (a .0) (a .1 .0 .now) (a .1 .1 .0)
+    → Promise own (admit (a .1 .1 .0)) (record { site = a .0; counters = a .1 .0 .now }) (ruling (r .verdict)) (record { site = r .site; counters = x .1 .0 .now })
+unfolding Promise
 admitting κs a r x p = p
 
 pub releasing : (κs : _) (a : _) (r : _) (x : _) → departures.Post κs a r x
-    → (ruling (r .verdict), r .site, x .1 .0 .now) ≡ releaseOf (a .0) (a .1 .0 .now) (a .1 .1 .0)
+    → Promise own (release (a .1 .1 .0)) (record { site = a .0; counters = a .1 .0 .now }) (ruling (r .verdict)) (record { site = r .site; counters = x .1 .0 .now })
+unfolding Promise
 releasing κs a r x p = p
 
 pub looking-up : (κs : _) (a : _) (r : _) (x : _) → lookups.Post κs a r x → found r ≡ senderOf (a .0) (a .1 .0) (a .1 .1 .0)
 looking-up κs a r x p = p
 
-pub starting : (κs : _) (a : _) (r : _) (x : _) → begun.Post κs a r x → (ruling r, x .1 .0 .now) ≡ startOf (a .0) (a .1 .0 .now)
-starting κs a r x p = p
+pub starting : (κs : _) (a : _) (r : _) (x : _) → begun.Post κs a r x
+    → Promise own start (record { site = a .0; counters = a .1 .0 .now }) (ruling r) (record { site = a .0; counters = x .1 .0 .now })
+unfolding Promise
+starting κs a r x p = (p, refl)
 
 pub one-slot : (κs : _) (a : _) (r : _) (x : _) → moved.Post κs a r x
-    → (ruling r, x .1 .0 .now) ≡ slotOf own (a .0) (a .1 .0 .now) (a .1 .1 .0 .now) (a .1 .1 .1 .0)
-one-slot κs a r x p = p
+    → Promise own (slot (a .1 .1 .1 .0) (a .1 .1 .0 .now)) (record { site = a .0; counters = a .1 .0 .now }) (ruling r) (record { site = a .0; counters = x .1 .0 .now })
+unfolding Promise
+one-slot κs a r x p = (p, refl)
 
 pub loads-contract : (κs : _) (a : _) (r : _) (x : _) → loads.Post κs a r x → r ≡ loadsOf (a .0)
 loads-contract κs a r x p = p
 
-pub read-plan-contract : (κs : _) (a : _) (r : _) (x : _) → reads.Post κs a r x → told r ≡ planReadFrom (a .0 .now)
-read-plan-contract κs a r x p = p
+-- What programs print of plan bytes and of schedule files, and what is typed.
+pub reporting : (κs : _) (a : _) (r : _) (x : _) → reports.Post κs a r x → (writing r, x .1 .0 .now) ≡ written (reportOf (a .0 .now)) (a .1 .0 .now)
+reporting κs a r x p = p
 
-pub schedule-contract : (κs : _) (a : _) (r : _) (x : _) → schedules.Post κs a r x → (told r, x .1 .0 .now) ≡ scheduleFrom (a .0 .now) (a .1 .0 .now)
-schedule-contract κs a r x p = p
+pub schedule-reporting : (κs : _) (a : _) (r : _) (x : _) → schedule-reports.Post κs a r x
+    → (writing r, x .1 .0 .now) ≡ written (scheduleReportOf (a .0 .now)) (a .1 .0 .now)
+schedule-reporting κs a r x p = p
 
-pub read-schedule-contract : (κs : _) (a : _) (r : _) (x : _) → files.Post κs a r x
-    → (told r, x .1 .0 .now, x .1 .1 .0 .now) ≡ scheduleReadFrom (a .0 .now) (a .1 .0 .now) (a .1 .1 .0 .now)
-read-schedule-contract κs a r x p = p
+pub listing-plans : (κs : _) (a : _) (r : _) (x : _) → listings.Post κs a r x → (writing r, x .1 .0 .now) ≡ written (listingOf (a .0 .now)) (a .1 .0 .now)
+listing-plans κs a r x p = p
 
-pub write-schedule-contract : (κs : _) (a : _) (r : _) (x : _) → writes.Post κs a r x
-    → (told r, x .1 .1 .1 .0 .now) ≡ scheduleWrittenFrom (a .0) (a .1 .0 .now) (a .1 .1 .0 .now) (a .1 .1 .1 .0 .now)
-write-schedule-contract κs a r x p = p
+pub assembling-plans : (κs : _) (a : _) (r : _) (x : _) → assemblies.Post κs a r x → (r, x .1 .0 .now) ≡ assembledOf (a .0 .now) (a .1 .0 .now)
+assembling-plans κs a r x p = p
 
-pub admit-contract : (κs : _) (a : _) (r : _) (x : _) → admits.Post κs a r x
-    → (told r, x .1 .0 .now, x .1 .1 .1 .1 .1 .1 .0 .now)
-    ≡ admitFrom (a .0 .now) (a .1 .0 .now)
-    (record { number = a .1 .1 .0; entry = a .1 .1 .1 .0; rate = a .1 .1 .1 .1 .0; deadline = a .1 .1 .1 .1 .1 .0 }) (a .1 .1 .1 .1 .1 .1 .0 .now)
-admit-contract κs a r x p = p
+-- A line of a rehearsal: what it asks for; the call that it makes, which is a step of a run; and all that it comes to.
+pub line-reading : (κs : _) (a : _) (r : _) (x : _) → lines.Post κs a r x → r ≡ askedOf (a .0 .now)
+line-reading κs a r x p = p
 
-pub release-contract : (κs : _) (a : _) (r : _) (x : _) → releases.Post κs a r x
-    → (told r, x .1 .0 .now, x .1 .1 .1 .0 .now) ≡ releaseFrom (a .0 .now) (a .1 .0 .now) (a .1 .1 .0) (a .1 .1 .1 .0 .now)
-release-contract κs a r x p = p
+pub call-making : (κs : _) (a : _) (r : _) (x : _) → made.Post κs a r x
+    → Promise own (callOf (a .0) (a .1 .0 .now)) (record { site = a .1 .1 .0; counters = a .1 .1 .1 .0 .now }) (ruling (r .verdict))
+    (record { site = r .site; counters = x .1 .1 .1 .0 .now })
+call-making κs a r x p = p
 
-pub start-contract : (κs : _) (a : _) (r : _) (x : _) → starts.Post κs a r x → (told r, x .1 .0 .now) ≡ startFrom (a .0 .now) (a .1 .0 .now)
-start-contract κs a r x p = p
+pub line-answering : (κs : _) (a : _) (r : _) (x : _) → answers.Post κs a r x
+    → Gives (answeredTo (askedOf (a .0 .now)) (record { site = a .1 .0; counters = a .1 .1 .0 .now })) (record { site = r .site; counters = x .1 .1 .0 .now })
+    (a .1 .1 .1 .1 .0, a .1 .1 .1 .0 .now) (r .filled, x .1 .1 .1 .0 .now)
+line-answering κs a r x p = p
 
-pub slot-contract : (κs : _) (a : _) (r : _) (x : _) → slots.Post κs a r x
-    → (told r, x .1 .0 .now) ≡ slotFrom (a .0 .now) (a .1 .0 .now) (a .1 .1 .0 .now) (a .1 .1 .1 .0)
-slot-contract κs a r x p = p
-
-pub sender-contract : (κs : _) (a : _) (r : _) (x : _) → senders.Post κs a r x → told r ≡ senderFrom (a .0 .now) (a .1 .0) (a .1 .1 .0)
-sender-contract κs a r x p = p
-
-pub bound-contract : (κs : _) (a : _) (r : _) (x : _) → bounds.Post κs a r x → told r ≡ boundFrom (a .0 .now) (a .1 .0)
-bound-contract κs a r x p = p
-
-pub assign-contract : (κs : _) (a : _) (r : _) (x : _) → assigns.Post κs a r x
-    → (told r, x .1 .0 .now, x .1 .1 .0 .now) ≡ assigned 2 (a .0 .now) (a .1 .0 .now) (a .1 .1 .0 .now)
-assign-contract κs a r x p = p
+-- What is typed, as far as it is taken up: the whole contract.
+pub taking-up : (κs : _) (a : _) (r : _) (x : _) → taken.Post κs a r x
+    → AllTaken (a .0 .now) (a .1 .1 .0 .now) (a .1 .1 .1 .1 .0 .now) (record { site = a .1 .0 .site; counters = a .1 .1 .1 .0 .now }) (a .1 .0 .kept) (r .taken)
+    (record { site = r .site; counters = x .1 .1 .1 .0 .now }) (x .1 .1 .0 .now) (r .kept) (r .filled, x .1 .1 .1 .1 .0 .now)
+taking-up κs a r x p = p

@@ -9,7 +9,9 @@ use Rattle.text.specs.Put.{puts}
 use Rattle.request_text.specs.declared.Line.the-variants.{Malformed}
 use Rattle.call_text.specs.declared.Asked.{Asked}
 use Rattle.call_text.specs.Lines.{alone, askedOf}
-use Rattle.guarantee.specs.Runs.{State, Log}
+use Rattle.site.specs.declared.Site.{Site}
+use Rattle.moves.specs.Hops.{own}
+use Rattle.guarantee.specs.Runs.{State, Log, start, called}
 use Rattle.line_answers.specs.Steps.{Carried, answeredTo}
 
 -- How a rehearsal stands: the calls made with their answers, newest first; the site and the counters that they left; what has come of the line that has not
@@ -19,6 +21,10 @@ pub record Desk : Type 0 where
   pub state : State
   pub line : List ℕ
   pub text : List (List ℕ)
+
+-- The state that a start of the rehearsal leaves.
+abbrev pub begun : Site → List ℕ → State
+begun s counters = called own start (record { site = s; counters = counters }) .1
 
 -- Where it begins: nothing is called, typed or answered.
 abbrev pub desk : State → Desk
@@ -56,6 +62,10 @@ pub record Holds (space : List ℕ) (kept : ℕ) (line : List ℕ) : Type 0 wher
 pub record AtDesk (d : Desk) (σ : State) (space : List ℕ) (kept : ℕ) : Type 0 where
   pub state : σ ≡ d .state
   pub held : Holds space kept (d .line)
+
+-- What is typed takes a rehearsal on, wherever it stood.
+abbrev pub GoesOn : List ℕ → State → List ℕ → ℕ → State → List ℕ → ℕ → Type 0
+GoesOn typed σ₀ space₀ kept₀ σ space kept = (d : Desk) → AtDesk d σ₀ space₀ kept₀ → AtDesk (fed (length space₀) d typed) σ space kept
 
 -- Besides, the space of the answers is as these leave s.
 pub record Stands (s : ℕ × List ℕ) (d : Desk) (σ : State) (space : List ℕ) (kept : ℕ) (t : ℕ × List ℕ) : Type 0 where

@@ -40,11 +40,19 @@ pub data Checks : Type 1 where
   none : Checks
   check : ℕ → (ℕ → Type 0) → Checks → Checks
 
+-- A check fails: it refuses, with its number, at a place where it fails.
+abbrev pub FailsAt : {A : Type 0} → ℕ → (ℕ → Type 0) → Outcome A → Type 0
+FailsAt number fails o = (p : ℕ) × (o ≡ refused number p) × fails p
+
+-- A check is passed: there is no place where it fails.
+abbrev pub Passed : (ℕ → Type 0) → Type 0
+Passed fails = (p : ℕ) → fails p → ⊥
+
 -- 01's first failing check, in words: an outcome is refused by the first check that fails, at the place where it fails; where none does, it is
 -- accepted with something that is as it should be.
 unfoldable pub Ruled : {A : Type 0} → (A → Type 0) → Checks → Outcome A → Type 0
 Ruled {A = A} gives none o = (a : A) × (o ≡ accepted a) × gives a
-Ruled gives (check number fails rest) o = ((p : ℕ) × (o ≡ refused number p) × fails p) ⊎ (((p : ℕ) → fails p → ⊥) × Ruled gives rest o)
+Ruled gives (check number fails rest) o = FailsAt number fails o ⊎ (Passed fails × Ruled gives rest o)
 
 -- An accepted call gives nothing but its acceptance.
 abbrev pub nothing : Unit {0} → Type 0

@@ -1,13 +1,15 @@
 -- What is typed, in parts or at once, is a list of calls: each line that ends is carried out once, in its order.
-use Prim.Native.Nat.{ℕ, zero, suc, _+_, _≤_, _<_}
+use Prim.Native.Nat.{ℕ, zero, suc, _+_, _-_, _≤_, _<_}
 use mathlib.Core.Path.{_≡_, refl, sym, _∙_, ap}
 use mathlib.Core.Bool.{Bool, true, false, cond}
+use mathlib.Core.Logic.{inl, inr}
 use mathlib.Core.List.{List, [], _∷_, _++_, append-assoc, append-nil}
 use lib.Dec.{eqb, leb}
-use lib.ListN.{length, take, drop, take-append-drop}
-use lib.Seq.{take-at}
+use lib.ListN.{length, take, drop, length-append, length-drop}
+use lib.Seq.{take-at, take-all, take-add}
 use borrow.Author.Tests.{le-leb}
 use native.Mathlib.Omega.{arith}
+use Rattle.lists.proofs.Laws.Search.{lt-or-le}
 use Rattle.moves.specs.Hops.{own}
 use Rattle.text.specs.Put.{puts}
 use Rattle.request_text.specs.declared.Line.{Line}
@@ -16,7 +18,8 @@ use Rattle.call_text.specs.declared.Asked.{Asked}
 use Rattle.guarantee.specs.Runs.{State, Log, Run, then, called}
 use Rattle.guarantee.proofs.Laws.{promised}
 use Rattle.line_answers.specs.Steps.{callOf, carriedOut, answeredTo}
-use Rattle.rehearsal.specs.Desk.{Desk, askedIn, onward, fedByte, fed, takenUp, AtDesk, Stands}
+use Rattle.rehearsal.specs.Desk.{Desk, askedIn, onward, fedByte, fed, takenUp, Holds, GoesOn}
+use Rattle.rehearsal.proofs.Laws.Typing.{AllTaken}
 
 -- Bytes that come in parts are those that come at once.
 pub fed-append : (room : ℕ) (d : Desk) (before behind : List ℕ) → fed room (fed room d before) behind ≡ fed room d (before ++ behind)
@@ -94,3 +97,71 @@ typed-run room σ₀ d (c ∷ cs) run = typed-run room σ₀ (fedByte room d c) 
         (record { calls = d .calls; state = d .state; line = d .line ++ (c ∷ []); text = d .text }))
     byte true = carried-run σ₀ (askedIn room (d .line)) run
     byte false = run
+
+-- Some line is held, whatever the memory is.
+holds-some : (space : List ℕ) (kept : ℕ) → (line : List ℕ) × Holds space kept line
+holds-some space kept = elim (lt-or-le (length space) kept) [
+  | inl l ↦ (0 ∷ space, record { whole = λ m. absurd (omega arith); longer = λ m. omega arith })
+  | inr l ↦ (take kept space, record { whole = λ m. refl; longer = λ m. absurd (omega arith) })
+]
+
+-- What is promised of bytes taken up, for the function's callers.
+module _ (bytes space₀ out₀ : List ℕ) (σ₀ : State) (kept₀ taken : ℕ) (σ : State) (space : List ℕ) (kept : ℕ) (t : ℕ × List ℕ)
+    (w : AllTaken bytes space₀ out₀ σ₀ kept₀ taken σ space kept t) where
+  -- Where there is room for an answer, at least one byte is taken up ..
+  pub taken-one : 8192 ≤ length out₀ → 1 ≤ length bytes → 1 ≤ taken
+  unfolding puts
+  taken-one room some = go bytes refl some taken refl
+    where
+      d : Desk
+      d = record { calls = []; state = σ₀; line = holds-some space₀ kept₀ .0; text = [] }
+
+      left : drop taken bytes ≡ takenUp (length space₀) (0, out₀) d bytes .1
+      left = w .1 d (record { at = record { state = refl; held = holds-some space₀ kept₀ .1 }; handed = refl }) .1
+
+      go : (bs : List ℕ) → bytes ≡ bs → 1 ≤ length bytes → (n : ℕ) → taken ≡ n → 1 ≤ n
+      go [] e l n f = absurd (omega (arith, ap length e))
+      go (c ∷ cs) e l (suc n) f = omega arith
+      go (c ∷ cs) e l zero f =
+          let rest = takenUp (length space₀) (0, out₀) (fedByte (length space₀) d c) cs in
+          let all : c ∷ cs ≡ rest .1 = rw (f, e, taken-some (length space₀) out₀ d c cs room refl) at left in
+          let front = taken-front (length space₀) (0, out₀) (fedByte (length space₀) d c) cs in
+          absurd (omega (arith, ap length all, ap length (front .1), length-append (front .0) (rest .1)))
+
+  -- .. and the rehearsal goes on by the bytes that were.
+  pub taken-on : GoesOn (take taken bytes) σ₀ space₀ kept₀ σ space kept
+  unfolding puts
+  taken-on d h =
+      let e = unanswered d in
+      let stands = w .1 e (record { at = record { state = h .state; held = h .held }; handed = refl }) in
+      let front = taken-front (length space₀) (0, out₀) e bytes in
+      let same : front .0 ≡ take taken bytes = fronts (front .0) _ (front .1) (stands .1) in
+      let text : withText (d .text) e ≡ d = ap (λ (ps : List (List ℕ)). record { calls = d .calls; state = d .state; line = d .line; text = ps }) (append-nil (d .text)) in
+      let on : fed (length space₀) d (take taken bytes) ≡ withText (d .text) (takenUp (length space₀) (0, out₀) e bytes .0)
+      = rw (front .2, same) (rw text at (fed-behind (length space₀) (d .text) e (take taken bytes))) in
+      rw on (record { state = stands .0 .at .state; held = stands .0 .at .held })
+    where
+      fronts : (front rest : List ℕ) → bytes ≡ front ++ rest → drop taken bytes ≡ rest → front ≡ take taken bytes
+      fronts front rest e f =
+          let long : length front ≡ taken = omega (arith, w .0, ap length e, length-append front rest, ap length f, length-drop taken bytes) in
+          rw e (sym (take-at front rest taken long))
+
+-- Nothing typed leaves a rehearsal, and what is typed later goes on where the former ended.
+pub goes-none : (σ : State) (space : List ℕ) (kept : ℕ) → GoesOn [] σ space kept σ space kept
+unfolding fed
+goes-none σ space kept d h = h
+
+module _ (σ₀ : State) (space₀ : List ℕ) (kept₀ : ℕ) (σ : State) (space : List ℕ) (kept : ℕ) (σ′ : State) (space′ : List ℕ) (kept′ : ℕ) where
+  pub goes-then : (former later : List ℕ) → GoesOn former σ₀ space₀ kept₀ σ space kept → length space ≡ length space₀
+      → GoesOn later σ space kept σ′ space′ kept′ → GoesOn (former ++ later) σ₀ space₀ kept₀ σ′ space′ kept′
+  goes-then former later g long w d h =
+      rw (← fed-append (length space₀) d former later) (rw long at (w (fed (length space₀) d former) (g d h)))
+
+  -- A slice from `from` on, of which some bytes were taken up.
+  pub goes-part : (bytes out : List ℕ) (from taken : ℕ) (t : ℕ × List ℕ) → from ≤ length bytes → GoesOn (take from bytes) σ₀ space₀ kept₀ σ space kept
+      → length space ≡ length space₀ → AllTaken (take (length bytes - from) (drop from bytes)) space out σ kept taken σ′ space′ kept′ t
+      → GoesOn (take (from + taken) bytes) σ₀ space₀ kept₀ σ′ space′ kept′
+  goes-part bytes out from taken t l g long w =
+      let part : take (length bytes - from) (drop from bytes) ≡ drop from bytes = take-all (length bytes - from) (drop from bytes) (omega (arith, length-drop from bytes)) in
+      rw (take-add from taken bytes)
+      (goes-then (take from bytes) (take taken (drop from bytes)) g long (rw part at (taken-on _ space out σ kept taken σ′ space′ kept′ t w)))
