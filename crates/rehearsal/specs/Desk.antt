@@ -67,6 +67,11 @@ pub record AtDesk (d : Desk) (σ : State) (space : List ℕ) (kept : ℕ) : Type
 abbrev pub GoesOn : List ℕ → State → List ℕ → ℕ → State → List ℕ → ℕ → Type 0
 GoesOn typed σ₀ space₀ kept₀ σ space kept = (d : Desk) → AtDesk d σ₀ space₀ kept₀ → AtDesk (fed (length space₀) d typed) σ space kept
 
+-- Something was typed that does.
+pub record SomeTyped (σ₀ : State) (space₀ : List ℕ) (kept₀ : ℕ) (σ : State) (space : List ℕ) (kept : ℕ) : Type 0 where
+  pub typed : List ℕ
+  pub goes : GoesOn typed σ₀ space₀ kept₀ σ space kept
+
 -- Besides, the space of the answers is as these leave s.
 pub record Stands (s : ℕ × List ℕ) (d : Desk) (σ : State) (space : List ℕ) (kept : ℕ) (t : ℕ × List ℕ) : Type 0 where
   pub at : AtDesk d σ space kept

@@ -6,7 +6,7 @@ use site::Site;
 ghost use Prim.Native.Nat.{ℕ};
 ghost use mathlib.Core.Path.{_≡_};
 ghost use mathlib.Core.List.{List};
-ghost use Rattle.rehearsal.specs.Desk.{begun, desk, fed, GoesOn};
+ghost use Rattle.rehearsal.specs.Desk.{begun, desk, fed, GoesOn, SomeTyped};
 
 // Takes up what was typed and prints the answers. No answer has more than 8,192 bytes, so the space takes at least one at a time.
 fn answer_bytes(
@@ -35,8 +35,8 @@ fn answer_bytes(
 
 // Answers the lines of standard input. Nothing says that an input ends, so the loop counts its reads down, from a number that no run uses up.
 fn answer_input(before: Rehearsal, space: &mut [u8], counters: &mut [u32]) -> Rehearsal
-    ensures { λ r. ⌜ ((typed : List ℕ) × GoesOn typed (record { site = before .site; counters = now (counters .entry) }) (now (space .entry)) (before .kept)
-        (record { site = r .site; counters = now (counters .exit) }) (now (space .exit)) (r .kept)) ⌝ }
+    ensures { λ r. ⌜ SomeTyped (record { site = before .site; counters = now (counters .entry) }) (now (space .entry)) (before .kept)
+        (record { site = r .site; counters = now (counters .exit) }) (now (space .exit)) (r .kept) ⌝ }
 {
     let mut bytes = [0u8; 1024];
     let mut site = before.site;

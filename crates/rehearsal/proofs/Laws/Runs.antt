@@ -6,10 +6,13 @@ use mathlib.Core.Logic.{inl, inr}
 use mathlib.Core.List.{List, [], _∷_, _++_, append-assoc, append-nil}
 use lib.Dec.{eqb, leb}
 use lib.ListN.{length, take, drop, length-append, length-drop}
-use lib.Seq.{take-at, take-all, take-add}
+use lib.Seq.{take-at, take-all, take-add, length-take-le}
 use borrow.Author.Tests.{le-leb}
 use native.Mathlib.Omega.{arith}
 use Rattle.lists.proofs.Laws.Search.{lt-or-le}
+use Rattle.rulings.specs.Outcome.{Ruling}
+use Rattle.site.specs.declared.Site.{Site}
+use Rattle.simulation.specs.Slot.{startOf}
 use Rattle.moves.specs.Hops.{own}
 use Rattle.text.specs.Put.{puts}
 use Rattle.request_text.specs.declared.Line.{Line}
@@ -18,8 +21,8 @@ use Rattle.call_text.specs.declared.Asked.{Asked}
 use Rattle.guarantee.specs.Runs.{State, Log, Run, then, called}
 use Rattle.guarantee.proofs.Laws.{promised}
 use Rattle.line_answers.specs.Steps.{callOf, carriedOut, answeredTo}
-use Rattle.rehearsal.specs.Desk.{Desk, askedIn, onward, fedByte, fed, takenUp, Holds, GoesOn}
-use Rattle.rehearsal.proofs.Laws.Typing.{AllTaken}
+use Rattle.rehearsal.specs.Desk.{Desk, askedIn, onward, fedByte, fed, takenUp, Holds, GoesOn, SomeTyped, begun, desk}
+use Rattle.rehearsal.proofs.Laws.Typing.{AllTaken, holds-nothing}
 
 -- Bytes that come in parts are those that come at once.
 pub fed-append : (room : ℕ) (d : Desk) (before behind : List ℕ) → fed room (fed room d before) behind ≡ fed room d (before ++ behind)
@@ -151,13 +154,24 @@ pub goes-none : (σ : State) (space : List ℕ) (kept : ℕ) → GoesOn [] σ sp
 unfolding fed
 goes-none σ space kept d h = h
 
+-- The slice of some bytes from `from` on.
+part-long : (bytes : List ℕ) (from : ℕ) → from ≤ length bytes → length (take (length bytes - from) (drop from bytes)) ≡ length bytes - from
+part-long bytes from l = length-take-le (length bytes - from) (drop from bytes) (omega (arith, length-drop from bytes))
+
+-- Of the slice from `from` on at least one byte is taken up, and none beyond its end ..
+pub part-taken : (σ : State) (space : List ℕ) (kept : ℕ) (σ′ : State) (space′ : List ℕ) (kept′ : ℕ) (bytes out : List ℕ) (from taken : ℕ) (t : ℕ × List ℕ) → from < length bytes → 8192 ≤ length out
+    → AllTaken (take (length bytes - from) (drop from bytes)) space out σ kept taken σ′ space′ kept′ t → (1 ≤ taken) × (from + taken ≤ length bytes)
+part-taken σ space kept σ′ space′ kept′ bytes out from taken t l room w =
+    let long = part-long bytes from (omega arith) in
+    (taken-one _ space out σ kept taken σ′ space′ kept′ t w room (omega (arith, long)), omega (arith, long, w .0))
+
 module _ (σ₀ : State) (space₀ : List ℕ) (kept₀ : ℕ) (σ : State) (space : List ℕ) (kept : ℕ) (σ′ : State) (space′ : List ℕ) (kept′ : ℕ) where
   pub goes-then : (former later : List ℕ) → GoesOn former σ₀ space₀ kept₀ σ space kept → length space ≡ length space₀
       → GoesOn later σ space kept σ′ space′ kept′ → GoesOn (former ++ later) σ₀ space₀ kept₀ σ′ space′ kept′
   goes-then former later g long w d h =
       rw (← fed-append (length space₀) d former later) (rw long at (w (fed (length space₀) d former) (g d h)))
 
-  -- A slice from `from` on, of which some bytes were taken up.
+  -- .. and the rehearsal stands where the bytes up to there take it.
   pub goes-part : (bytes out : List ℕ) (from taken : ℕ) (t : ℕ × List ℕ) → from ≤ length bytes → GoesOn (take from bytes) σ₀ space₀ kept₀ σ space kept
       → length space ≡ length space₀ → AllTaken (take (length bytes - from) (drop from bytes)) space out σ kept taken σ′ space′ kept′ t
       → GoesOn (take (from + taken) bytes) σ₀ space₀ kept₀ σ′ space′ kept′
@@ -165,3 +179,18 @@ module _ (σ₀ : State) (space₀ : List ℕ) (kept₀ : ℕ) (σ : State) (spa
       let part : take (length bytes - from) (drop from bytes) ≡ drop from bytes = take-all (length bytes - from) (drop from bytes) (omega (arith, length-drop from bytes)) in
       rw (take-add from taken bytes)
       (goes-then (take from bytes) (take taken (drop from bytes)) g long (rw part at (taken-on _ space out σ kept taken σ′ space′ kept′ t w)))
+
+-- A start, then what is typed, and last a newline: the state that is left is one that typed bytes lead to from the start on.
+pub rehearsed : (s : Site) (counters counters′ : List ℕ) (a : Ruling) (σ : State) (space space′ : List ℕ) (kept : ℕ) (σ′ : State) (space″ : List ℕ) (kept′ : ℕ)
+    → (a, counters′) ≡ startOf s counters → length space ≡ 1000 → SomeTyped (record { site = s; counters = counters′ }) space 0 σ space′ kept
+    → length space′ ≡ length space → (last : List ℕ) → GoesOn last σ space′ kept σ′ space″ kept′
+    → (typed : List ℕ) × (σ′ ≡ fed 1000 (desk (begun s counters)) typed .state)
+unfolding called
+rehearsed s counters counters′ a σ space space′ kept σ′ space″ kept′ e long w same last g =
+    let all : GoesOn (w .typed ++ last) (record { site = s; counters = counters′ }) space 0 σ′ space″ kept′
+    = goes-then _ space 0 σ space′ kept σ′ space″ kept′ (w .typed) last (w .goes) same g in
+    let at = all (desk (begun s counters)) (record { state = left; held = holds-nothing space }) in
+    (w .typed ++ last, rw long at (at .state))
+  where
+    left : _≡_ {A = State} (record { site = s; counters = counters′ }) (begun s counters)
+    left = ap (λ (q : Ruling × List ℕ). record { site = s; counters = q .1 }) e
