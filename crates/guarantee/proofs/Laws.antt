@@ -4,6 +4,7 @@
 pub mod Frame
 pub mod Demand
 pub mod Reach
+pub mod Bits
 use Prim.Native.Nat.{ℕ, zero, suc, _+_, _-_, _≤_, _<_}
 use mathlib.Core.Path.{_≡_, refl, sym, _∙_, ap}
 use mathlib.Core.Bool.{true, and-eq-true-iff}
@@ -46,9 +47,10 @@ use Rattle.simulation.proofs.Laws.{slot-accepted, slot-refused, start-accepted,
 use Rattle.moves.proofs.Laws.{slot-cells}
 use Rattle.guarantee.specs.Runs.{Call, slot, admit, release, start, State, Promise, called, checksOf, Log, Run, none, then, admissions}
 use Rattle.guarantee.specs.Demand.{entered, slotsOf, Stays, NoStart, rateOf, deadlineOf, boundOf, Begins, Allowed, Answered, Kept, newest}
-use Rattle.guarantee.specs.Words.{Exchanged, nodesAlone, FirstServed}
+use Rattle.guarantee.specs.Words.{Exchanged, nodesAlone, FirstServed, Small, Sized}
 use Rattle.guarantee.proofs.Laws.Demand.{followed, cells-begun, demand3-any, own-steady, span-along, own-few, own-serves, own-some, own-short}
 use Rattle.guarantee.proofs.Laws.Reach.{below-none, below-all, below-passes, reach}
+use Rattle.guarantee.proofs.Laws.Bits.{zeros-small, call-small}
 
 -- G is the sum of the periods on the route, the bound that is printed; it is at least 1.
 pub bound-is : (s : Site) (f : ℕ) → boundOf own s f ≡ delayBound s f
@@ -231,6 +233,21 @@ run-keeps v (then {σ = σ} c a σ′ r p) =
 -- So check 14 lets the site pass all along a list.
 pub run-passes : (v : Service) (σ₀ σ : State) (l : Log) → Run v σ₀ l σ → passesOf (σ₀ .site) ≡ true → passesOf (σ .site) ≡ true
 run-passes v σ₀ σ l run e = run-keeps v run .0 e
+
+-- And where there are 576 counters of 32 bits, there are such all along it.
+pub run-sized : (σ₀ σ : State) (l : Log) → Run own σ₀ l σ → Sized σ₀ → Sized σ
+run-sized σ₀ σ l run w = record { passes = run-keeps own run .0 (w .passes); counted = run-keeps own run .1 (w .counted); small = small run }
+  where
+    small : {l : Log} {σ : State} → Run own σ₀ l σ → Small σ
+    small none = w .small
+    small (then {σ = σ} c a σ′ r p) = call-small σ σ′ c a p (small r)
+
+-- A start makes such a state of 576 counters, whatever they are.
+pub start-sized : (σ σ′ : State) → Promise own start σ (accepted tt) σ′ → Sized σ′
+unfolding Promise
+start-sized σ σ′ p =
+    let w = start-accepted (σ .site) (σ .counters) (σ′ .counters) (p .0) in
+    record { passes = rw (p .1) (passes-sound (σ .site) .1 (w .1)); counted = rw (w .2) (length-zeros 576); small = rw (w .2) zeros-small }
 
 -- And from a beginning on no start is refused: each begins a list of its own.
 pub start-unrefused : (v : Service) (f : ℕ) (σ₀ σ σ′ : State) (l : Log) → Run v σ₀ l σ → Begins f σ₀ → (number place : ℕ)

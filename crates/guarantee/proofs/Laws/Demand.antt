@@ -97,7 +97,7 @@ allowed-before f s c r l w = record {
 }
 
 -- Every answer is that of the checks in words.
-call-ruled : (v : Service) (c : Call) (σ : State) (r : Ruling) (σ′ : State) → Promise v c σ r σ′ → Ruled nothing (checksOf c σ) r
+pub call-ruled : (v : Service) (c : Call) (σ : State) (r : Ruling) (σ′ : State) → Promise v c σ r σ′ → Ruled nothing (checksOf c σ) r
 unfolding Promise checksOf slotOf admitOf releaseOf startOf change recounted
 call-ruled v (slot t xs) σ r σ′ p = slots-first (σ .site) (σ .counters) xs r .0 (sym (ap (λ (q : Ruling × List ℕ). q .0) (p .0)))
 call-ruled v (admit g) σ r σ′ p = admits-first (σ .site) (σ .counters) g r .0 (sym (ap (λ (q : Ruling × Site × List ℕ). q .0) p))

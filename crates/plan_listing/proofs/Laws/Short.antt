@@ -45,7 +45,7 @@ module _ (s : Site) (w : Sound s) where
       go true e = typed-short _ _ _ _ (record { is = omega arith }) (entry-figure s w n e) (rate-figure s w n e) (deadline-figure s w n e)
       go false e = omega arith
 
-  typed-whole : length (textOf (siteTyped s)) ≤ 8192
+  pub typed-whole : length (textOf (siteTyped s)) ≤ 8192
   unfolding siteTyped used
   typed-whole =
       let nodes = lines-short (nodeTyped s) 23 (used (s .links)) 0 (λ i l. node-line i (omega arith)) in

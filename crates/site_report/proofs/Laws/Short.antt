@@ -95,7 +95,7 @@ module _ (s : Site) (w : Sound s) where
       field (letters "accepted links ") (s .links) _ _ (omega arith) (record { is = omega (arith, few s w) })
       (field (letters " flows ") (flowCount s) _ _ (omega arith) (record { is = omega (arith, flows-few s) }) ended)
 
-  site-short : length (textOf (siteLines s)) ≤ 8192
+  pub site-short : length (textOf (siteLines s)) ≤ 8192
   unfolding siteLines used
   site-short =
       let links = lines-short (linkLine s) 61 (used (s .links)) 0 (λ i l. link-line i (omega arith)) in
