@@ -1,4 +1,6 @@
--- What is proved of lines carried out: a promise settles the answer and the state left, and so each kind of line comes to what is defined of it.
+-- What is proved of lines carried out: a promise settles the answer and the state left, and so each kind of line comes to what is defined of it. The module
+-- named here says that no answer is longer than 8,192 bytes.
+pub mod Short
 use Prim.Native.Nat.{ℕ}
 use mathlib.Core.Path.{_≡_, refl, _∙_, ap}
 use mathlib.Core.List.{List}

@@ -1,6 +1,7 @@
 -- What is proved of a rehearsal as it is typed: demand 3 of 01 holds of it, and all answers are handed out. The modules named here hold the lemmas.
 pub mod Typing
 pub mod Runs
+pub mod Whole
 use Prim.Native.Nat.{ℕ}
 use mathlib.Core.Path.{_≡_, refl}
 use mathlib.Core.Bool.{true}

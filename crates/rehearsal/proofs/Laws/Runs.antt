@@ -21,7 +21,7 @@ use Rattle.call_text.specs.declared.Asked.{Asked}
 use Rattle.guarantee.specs.Runs.{State, Log, Run, then, called}
 use Rattle.guarantee.proofs.Laws.{promised}
 use Rattle.line_answers.specs.Steps.{callOf, carriedOut, answeredTo}
-use Rattle.rehearsal.specs.Desk.{Desk, askedIn, onward, fedByte, fed, takenUp, Holds, GoesOn, SomeTyped, begun, desk}
+use Rattle.rehearsal.specs.Desk.{Desk, askedIn, onward, fedByte, fed, takenUp, Holds, AtDesk, GoesOn, SomeTyped, begun, desk}
 use Rattle.rehearsal.proofs.Laws.Typing.{AllTaken, holds-nothing}
 
 -- Bytes that come in parts are those that come at once.
@@ -76,7 +76,7 @@ fed-behind room pieces d (c ∷ cs) = ap (λ (e : Desk). fed room e cs) (byte (e
     byte false = refl
 
 -- A line that ends makes a call of the list, or none.
-carried-run : (σ₀ : State) (asked : Asked) {l : Log} {σ : State} → Run own σ₀ l σ → Run own σ₀ (answeredTo asked σ .calls ++ l) (answeredTo asked σ .state)
+pub carried-run : (σ₀ : State) (asked : Asked) {l : Log} {σ : State} → Run own σ₀ l σ → Run own σ₀ (answeredTo asked σ .calls ++ l) (answeredTo asked σ .state)
 unfolding answeredTo carriedOut
 carried-run σ₀ asked {l = l} {σ = σ} run = go (asked .line)
   where
@@ -131,23 +131,29 @@ module _ (bytes space₀ out₀ : List ℕ) (σ₀ : State) (kept₀ taken : ℕ
           let front = taken-front (length space₀) (0, out₀) (fedByte (length space₀) d c) cs in
           absurd (omega (arith, ap length all, ap length (front .1), length-append (front .0) (rest .1)))
 
-  -- .. and the rehearsal goes on by the bytes that were.
-  pub taken-on : GoesOn (take taken bytes) σ₀ space₀ kept₀ σ space kept
+  -- .. the bytes that were lead to what all come to, with their answers behind those that were given before ..
+  pub taken-leads : (d : Desk) → AtDesk d σ₀ space₀ kept₀
+      → fed (length space₀) d (take taken bytes) ≡ withText (d .text) (takenUp (length space₀) (0, out₀) (unanswered d) bytes .0)
   unfolding puts
-  taken-on d h =
+  taken-leads d h =
       let e = unanswered d in
-      let stands = w .1 e (record { at = record { state = h .state; held = h .held }; handed = refl }) in
+      let left = w .1 e (record { at = record { state = h .state; held = h .held }; handed = refl }) .1 in
       let front = taken-front (length space₀) (0, out₀) e bytes in
-      let same : front .0 ≡ take taken bytes = fronts (front .0) _ (front .1) (stands .1) in
+      let same : front .0 ≡ take taken bytes = fronts (front .0) _ (front .1) left in
       let text : withText (d .text) e ≡ d = ap (λ (ps : List (List ℕ)). record { calls = d .calls; state = d .state; line = d .line; text = ps }) (append-nil (d .text)) in
-      let on : fed (length space₀) d (take taken bytes) ≡ withText (d .text) (takenUp (length space₀) (0, out₀) e bytes .0)
-      = rw (front .2, same) (rw text at (fed-behind (length space₀) (d .text) e (take taken bytes))) in
-      rw on (record { state = stands .0 .at .state; held = stands .0 .at .held })
+      rw (front .2, same) (rw text at (fed-behind (length space₀) (d .text) e (take taken bytes)))
     where
       fronts : (front rest : List ℕ) → bytes ≡ front ++ rest → drop taken bytes ≡ rest → front ≡ take taken bytes
       fronts front rest e f =
           let long : length front ≡ taken = omega (arith, w .0, ap length e, length-append front rest, ap length f, length-drop taken bytes) in
           rw e (sym (take-at front rest taken long))
+
+  -- .. and the rehearsal goes on by them.
+  pub taken-on : GoesOn (take taken bytes) σ₀ space₀ kept₀ σ space kept
+  unfolding puts
+  taken-on d h =
+      let stands = w .1 (unanswered d) (record { at = record { state = h .state; held = h .held }; handed = refl }) in
+      rw (taken-leads d h) (record { state = stands .0 .at .state; held = stands .0 .at .held })
 
 -- Nothing typed leaves a rehearsal, and what is typed later goes on where the former ended.
 pub goes-none : (σ : State) (space : List ℕ) (kept : ℕ) → GoesOn [] σ space kept σ space kept
