@@ -101,7 +101,8 @@ call-small σ σ′ (slot t xs) (refused number place) p small =
 call-small σ σ′ (admit f) (accepted tt) p small =
     let w = admit-accepted (σ .site) (σ′ .site) (σ .counters) (σ′ .counters) f p in
     let few = w .0 .good .within .number-most in
-    rw (w .2) (cells-small (σ .counters) _ small (cells-after (σ .counters) (f .number) (w .0 .counted) few .0) (cleared-small (σ .counters) (f .number) (w .0 .counted) few))
+    rw (w .2) (cells-small (σ .counters) _ small (cells-after (σ .counters) (f .number) (w .0 .counted) few .0)
+    (cleared-small (σ .counters) (f .number) (w .0 .counted) few))
 call-small σ σ′ (admit f) (refused number place) p small =
     rw (admit-refused (σ .site) (σ′ .site) (σ .counters) (σ′ .counters) f number place p .1) small
 call-small σ σ′ (release n) (accepted tt) p small =

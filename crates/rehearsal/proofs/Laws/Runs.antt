@@ -1,5 +1,5 @@
 -- What is typed, in parts or at once, is a list of calls: each line that ends is carried out once, in its order.
-use Prim.Native.Nat.{ℕ, zero, suc, _+_, _-_, _≤_, _<_}
+use Prim.Native.Nat.{ℕ, zero, suc, _+_, _-_, _≤_}
 use mathlib.Core.Path.{_≡_, refl, sym, _∙_, ap}
 use mathlib.Core.Bool.{Bool, true, false, cond}
 use mathlib.Core.Logic.{inl, inr}
@@ -18,7 +18,7 @@ use Rattle.text.specs.Put.{puts}
 use Rattle.request_text.specs.declared.Line.{Line}
 use Rattle.request_text.specs.declared.Line.the-variants.{PassedOver, Makes, Asks, Malformed}
 use Rattle.call_text.specs.declared.Asked.{Asked}
-use Rattle.guarantee.specs.Runs.{State, Log, Run, then, called}
+use Rattle.guarantee.specs.Runs.{State, Log, Run, then}
 use Rattle.guarantee.proofs.Laws.{promised}
 use Rattle.line_answers.specs.Steps.{callOf, carriedOut, answeredTo}
 use Rattle.rehearsal.specs.Desk.{Desk, askedIn, onward, fedByte, fed, takenUp, Holds, AtDesk, GoesOn, SomeTyped, begun, desk}
@@ -140,7 +140,8 @@ module _ (bytes space₀ out₀ : List ℕ) (σ₀ : State) (kept₀ taken : ℕ
       let left = w .1 e (record { at = record { state = h .state; held = h .held }; handed = refl }) .1 in
       let front = taken-front (length space₀) (0, out₀) e bytes in
       let same : front .0 ≡ take taken bytes = fronts (front .0) _ (front .1) left in
-      let text : withText (d .text) e ≡ d = ap (λ (ps : List (List ℕ)). record { calls = d .calls; state = d .state; line = d .line; text = ps }) (append-nil (d .text)) in
+      let text : withText (d .text) e ≡ d
+      = ap (λ (ps : List (List ℕ)). record { calls = d .calls; state = d .state; line = d .line; text = ps }) (append-nil (d .text)) in
       rw (front .2, same) (rw text at (fed-behind (length space₀) (d .text) e (take taken bytes)))
     where
       fronts : (front rest : List ℕ) → bytes ≡ front ++ rest → drop taken bytes ≡ rest → front ≡ take taken bytes

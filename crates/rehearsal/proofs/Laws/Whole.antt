@@ -2,7 +2,7 @@
 use Prim.Native.Nat.{ℕ, _+_, _≤_}
 use mathlib.Core.Path.{_≡_, refl, _∙_, ap}
 use mathlib.Core.Bool.{Bool, true, false, cond}
-use mathlib.Core.List.{List, [], _∷_, _++_, append-nil}
+use mathlib.Core.List.{List, [], _∷_, _++_}
 use lib.Dec.{eqb, leb}
 use lib.ListN.{length, take, drop}
 use borrow.Author.Tests.{leb-true}
@@ -32,9 +32,6 @@ byte-roomy : (room size : ℕ) (d : Desk) (c : ℕ) → Roomy size d → length 
 unfolding fedByte
 byte-roomy room size d c w l = go (eqb c 10)
   where
-    answer : ℕ
-    answer = length (textOf (answeredTo (askedIn room (d .line)) (d .state) .text))
-
     go : (b : Bool) → Roomy size (cond b (onward d (answeredTo (askedIn room (d .line)) (d .state)))
         (record { calls = d .calls; state = d .state; line = d .line ++ (c ∷ []); text = d .text }))
     go true = (
@@ -64,7 +61,8 @@ taken-roomy room out d (c ∷ cs) w = go (λ v. taken-roomy room out (fedByte ro
         → (b : Bool) → leb (puts (0, out) (d .text) .0 + 8192) (length out) ≡ b
         → Roomy (length out) (cond b (takenUp room (0, out) (fedByte room d c) cs) (d, c ∷ cs) .0)
     go rest true e =
-        let more : length (textOf (d .text)) + 8192 ≤ length out = rw (front-whole out (d .text) (w .1)) at (leb-true (puts (0, out) (d .text) .0 + 8192) (length out) e) in
+        let more : length (textOf (d .text)) + 8192 ≤ length out
+        = rw (front-whole out (d .text) (w .1)) at (leb-true (puts (0, out) (d .text) .0 + 8192) (length out) e) in
         rest (byte-roomy room (length out) d c w more)
     go rest false e = w
 
