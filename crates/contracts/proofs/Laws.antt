@@ -22,7 +22,7 @@ use Rattle.schedule_report.specs.Report.{scheduleReportOf}
 use Rattle.plan_listing.specs.Listing.{listingOf}
 use Rattle.typed_plan.specs.Assemble.{assembledOf}
 use Rattle.call_text.specs.Lines.{askedOf}
-use Rattle.line_answers.specs.Steps.{callOf, answeredTo, Gives}
+use Rattle.line_answers.specs.Steps.{callOf, answeredTo, CarriedAs}
 use Rattle.rehearsal.proofs.Laws.Typing.{AllTaken}
 use Rattle.site_report.proofs.report.Reads as reports
 use Rattle.schedule_report.proofs.report_schedule.Reads as schedule-reports
@@ -144,7 +144,7 @@ pub call-making : (κs : _) (a : _) (r : _) (x : _) → made.Post κs a r x
 call-making κs a r x p = p
 
 pub line-answering : (κs : _) (a : _) (r : _) (x : _) → answers.Post κs a r x
-    → Gives (answeredTo (askedOf (a .0 .now)) (record { site = a .1 .0; counters = a .1 .1 .0 .now })) (record { site = r .site; counters = x .1 .1 .0 .now })
+    → CarriedAs (answeredTo (askedOf (a .0 .now)) (record { site = a .1 .0; counters = a .1 .1 .0 .now })) (record { site = r .site; counters = x .1 .1 .0 .now })
     (a .1 .1 .1 .1 .0, a .1 .1 .1 .0 .now) (r .filled, x .1 .1 .1 .0 .now)
 line-answering κs a r x p = p
 

@@ -15,7 +15,7 @@ use Rattle.request_text.specs.declared.Line.the-variants.{PassedOver, Makes, As
 use Rattle.call_text.specs.declared.Asked.{Asked}
 use Rattle.guarantee.specs.Runs.{slot, admit, release, start, State, Promise, called}
 use Rattle.guarantee.specs.Runs as runs
-use Rattle.line_answers.specs.Steps.{callOf, asLine, questionText, malformedText, carriedOut, answeredTo, Gives}
+use Rattle.line_answers.specs.Steps.{callOf, asLine, questionText, malformedText, carriedOut, answeredTo, CarriedAs}
 
 -- A slot and a start answer and leave counters; the site stays.
 recounted-once : (a : Ruling) (σ σ′ : State) (w : Ruling × List ℕ) → (a, σ′ .counters) ≡ w → σ′ .site ≡ σ .site
@@ -34,20 +34,20 @@ promise-once v (release n) σ σ′ a p = ap (λ (q : Ruling × Site × List ℕ
 promise-once v start σ σ′ a p = recounted-once a σ σ′ _ (p .0) (p .1)
 
 module _ (asked : Asked) (σ : State) (s : ℕ × List ℕ) where
-  pub passed-over : asked .line ≡ PassedOver → Gives (answeredTo asked σ) σ s s
+  pub passed-over : asked .line ≡ PassedOver → CarriedAs (answeredTo asked σ) σ s s
   unfolding answeredTo carriedOut puts
   passed-over e = rw e (refl, refl)
 
   pub call-made : (σ′ : State) (t : ℕ × List ℕ) (call : Call) (a : Ruling) → asked .line ≡ Makes call
-      → Promise own (callOf call (asked .arrivals)) σ a σ′ → t ≡ puts s (asLine (verdictText a)) → Gives (answeredTo asked σ) σ′ s t
+      → Promise own (callOf call (asked .arrivals)) σ a σ′ → t ≡ puts s (asLine (verdictText a)) → CarriedAs (answeredTo asked σ) σ′ s t
   unfolding answeredTo carriedOut
   call-made σ′ t call a e p q = rw (e, ← promise-once own (callOf call (asked .arrivals)) σ σ′ a p) (refl, q)
 
   pub question-asked : (t : ℕ × List ℕ) (question : Question) → asked .line ≡ Asks question
-      → t ≡ puts s (questionText question (σ .site) (σ .counters)) → Gives (answeredTo asked σ) σ s t
+      → t ≡ puts s (questionText question (σ .site) (σ .counters)) → CarriedAs (answeredTo asked σ) σ s t
   unfolding answeredTo carriedOut
   question-asked t question e q = rw e (refl, q)
 
-  pub nothing-known : (t : ℕ × List ℕ) → asked .line ≡ Malformed → t ≡ puts s malformedText → Gives (answeredTo asked σ) σ s t
+  pub nothing-known : (t : ℕ × List ℕ) → asked .line ≡ Malformed → t ≡ puts s malformedText → CarriedAs (answeredTo asked σ) σ s t
   unfolding answeredTo carriedOut
   nothing-known t e q = rw e (refl, q)

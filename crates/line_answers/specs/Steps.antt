@@ -44,33 +44,33 @@ questionText Show s counters = siteLines s
 questionText Typed s counters = siteTyped s
 
 -- What a line comes to: the calls that it makes with their answers (one or none), the state that it leaves, and the text that answers it.
-pub record Carried : Type 0 where
+pub record CarriedLine : Type 0 where
   pub calls : Log
   pub state : State
   pub text : List (List ℕ)
 
 -- Nothing is called, and this is told.
-abbrev pub onlyTold : State → List (List ℕ) → Carried
+abbrev pub onlyTold : State → List (List ℕ) → CarriedLine
 onlyTold σ pieces = record { calls = []; state = σ; text = pieces }
 
 -- A call is made, and its answer is told.
-abbrev pub asCalled : runs.Call → Ruling × State → Carried
+abbrev pub asCalled : runs.Call → Ruling × State → CarriedLine
 asCalled c (a, σ) = record { calls = (c, a) ∷ []; state = σ; text = asLine (verdictText a) }
 
 -- The answer to a line that says nothing known.
 abbrev pub malformedText : List (List ℕ)
 malformedText = letters "error\n" ∷ []
 
-unfoldable pub carriedOut : Line → List ℕ → State → Carried
+unfoldable pub carriedOut : Line → List ℕ → State → CarriedLine
 carriedOut PassedOver xs σ = onlyTold σ []
 carriedOut (Makes call) xs σ = asCalled (callOf call xs) (called own (callOf call xs) σ)
 carriedOut (Asks question) xs σ = onlyTold σ (questionText question (σ .site) (σ .counters))
 carriedOut Malformed xs σ = onlyTold σ malformedText
 
 -- What a line comes to by what it asks for.
-unfoldable pub answeredTo : Asked → State → Carried
+unfoldable pub answeredTo : Asked → State → CarriedLine
 answeredTo asked σ = carriedOut (asked .line) (asked .arrivals) σ
 
 -- A line that was carried out left this state, and its text stands behind what stood in the space.
-abbrev pub Gives : Carried → State → ℕ × List ℕ → ℕ × List ℕ → Type 0
-Gives w σ s t = (σ ≡ w .state) × (t ≡ puts s (w .text))
+abbrev pub CarriedAs : CarriedLine → State → ℕ × List ℕ → ℕ × List ℕ → Type 0
+CarriedAs w σ s t = (σ ≡ w .state) × (t ≡ puts s (w .text))

@@ -12,7 +12,7 @@ ghost use Rattle.text.specs.Letters.{letters};
 ghost use Rattle.text.specs.Put.{puts};
 ghost use Rattle.call_text.specs.Lines.{askedOf};
 ghost use Rattle.guarantee.specs.Runs.{Promise};
-ghost use Rattle.line_answers.specs.Steps.{callOf, questionText, answeredTo, Gives};
+ghost use Rattle.line_answers.specs.Steps.{callOf, questionText, answeredTo, CarriedAs};
 
 // The site after a line, and how many bytes of the space are taken by its answer and those before it.
 pub struct Answered {
@@ -90,7 +90,7 @@ pub fn answer_line(
     out: &mut [u8],
     at: usize,
 ) -> Answered
-    ensures { λ r. ⌜ Gives (answeredTo (askedOf (now (line .entry))) (record { site = site; counters = now (counters .entry) }))
+    ensures { λ r. ⌜ CarriedAs (answeredTo (askedOf (now (line .entry))) (record { site = site; counters = now (counters .entry) }))
         (record { site = r .site; counters = now (counters .exit) }) (at, now (out .entry)) (r .filled, now (out .exit)) ⌝ }
 {
     let asked = call_text::read_line(line);

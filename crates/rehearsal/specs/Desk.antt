@@ -12,7 +12,7 @@ use Rattle.call_text.specs.Lines.{alone, askedOf}
 use Rattle.site.specs.declared.Site.{Site}
 use Rattle.moves.specs.Hops.{own}
 use Rattle.guarantee.specs.Runs.{State, Log, start, called}
-use Rattle.line_answers.specs.Steps.{Carried, answeredTo}
+use Rattle.line_answers.specs.Steps.{CarriedLine, answeredTo}
 
 -- How a rehearsal stands: the calls made with their answers, newest first; the site and the counters that they left; what has come of the line that has not
 -- ended; the text of all answers, as pieces.
@@ -35,7 +35,7 @@ unfoldable pub askedIn : ℕ → List ℕ → Asked
 askedIn room line = cond (leb (length line) room) (askedOf line) (alone Malformed)
 
 -- The line that has ended was carried out, and the next one begins.
-abbrev pub onward : Desk → Carried → Desk
+abbrev pub onward : Desk → CarriedLine → Desk
 onward d w = record { calls = w .calls ++ d .calls; state = w .state; line = []; text = d .text ++ w .text }
 
 -- A newline ends the line; any other byte belongs to it.
@@ -54,14 +54,14 @@ takenUp room s d [] = (d, [])
 takenUp room s d (c ∷ cs) = cond (leb (puts s (d .text) .0 + 8192) (length (s .1))) (takenUp room s (fedByte room d c) cs) (d, c ∷ cs)
 
 -- What a space keeps of a line: its first `kept` bytes are the line. Where there are not so many, the line is longer than the space.
-pub record Holds (space : List ℕ) (kept : ℕ) (line : List ℕ) : Type 0 where
+pub record HoldsLine (space : List ℕ) (kept : ℕ) (line : List ℕ) : Type 0 where
   pub whole : kept ≤ length space → line ≡ take kept space
   pub longer : length space < kept → length space < length line
 
 -- The memory lent is at this point of a rehearsal: with its site and counters, and with the line that has not ended in its space.
 pub record AtDesk (d : Desk) (σ : State) (space : List ℕ) (kept : ℕ) : Type 0 where
   pub state : σ ≡ d .state
-  pub held : Holds space kept (d .line)
+  pub held : HoldsLine space kept (d .line)
 
 -- What is typed takes a rehearsal on, wherever it stood.
 abbrev pub GoesOn : List ℕ → State → List ℕ → ℕ → State → List ℕ → ℕ → Type 0

@@ -7,8 +7,8 @@ ghost use mathlib.Core.Path.{_≡_};
 ghost use mathlib.Core.List.{List, [], _∷_, _++_};
 ghost use lib.Dec.{leb};
 ghost use lib.ListN.{length, drop};
-ghost use Rattle.line_answers.specs.Steps.{answeredTo, Gives};
-ghost use Rattle.rehearsal.specs.Desk.{Desk, askedIn, takenUp, Holds, Stands};
+ghost use Rattle.line_answers.specs.Steps.{answeredTo, CarriedAs};
+ghost use Rattle.rehearsal.specs.Desk.{Desk, askedIn, takenUp, HoldsLine, Stands};
 
 // The site as it is now, and how many bytes are kept of the line that has not ended: one more than its space has where it is too long.
 pub struct Rehearsal {
@@ -26,7 +26,7 @@ pub struct TakenUp {
 
 // Puts a byte of the line behind those that are there; answers how many there are then.
 fn keep(space: &mut [u8], kept: usize, byte: u8) -> usize
-    ensures { λ r. ⌜ ((line : List ℕ) → Holds (now (space .entry)) kept line → Holds (now (space .exit)) r (line ++ (byte ∷ []))) ⌝ }
+    ensures { λ r. ⌜ ((line : List ℕ) → HoldsLine (now (space .entry)) kept line → HoldsLine (now (space .exit)) r (line ++ (byte ∷ []))) ⌝ }
 {
     if kept < space.len() {
         space[kept] = byte;
@@ -44,8 +44,8 @@ fn answer_held(
     out: &mut [u8],
     at: usize,
 ) -> Answered
-    ensures { λ r. ⌜ ((line : List ℕ) → Holds (now (space .entry)) kept line
-        → Gives (answeredTo (askedIn (length (now (space .entry))) line) (record { site = site; counters = now (counters .entry) }))
+    ensures { λ r. ⌜ ((line : List ℕ) → HoldsLine (now (space .entry)) kept line
+        → CarriedAs (answeredTo (askedIn (length (now (space .entry))) line) (record { site = site; counters = now (counters .entry) }))
         (record { site = r .site; counters = now (counters .exit) }) (at, now (out .entry)) (r .filled, now (out .exit))) ⌝ }
 {
     if space.len() < kept {

@@ -21,7 +21,7 @@ use Rattle.call_text.specs.declared.Asked.{Asked}
 use Rattle.guarantee.specs.Runs.{State, Log, Run, then}
 use Rattle.guarantee.proofs.Laws.{promised}
 use Rattle.line_answers.specs.Steps.{callOf, carriedOut, answeredTo}
-use Rattle.rehearsal.specs.Desk.{Desk, askedIn, onward, fedByte, fed, takenUp, Holds, AtDesk, GoesOn, SomeTyped, begun, desk}
+use Rattle.rehearsal.specs.Desk.{Desk, askedIn, onward, fedByte, fed, takenUp, HoldsLine, AtDesk, GoesOn, SomeTyped, begun, desk}
 use Rattle.rehearsal.proofs.Laws.Typing.{AllTaken, holds-nothing}
 
 -- Bytes that come in parts are those that come at once.
@@ -102,7 +102,7 @@ typed-run room σ₀ d (c ∷ cs) run = typed-run room σ₀ (fedByte room d c) 
     byte false = run
 
 -- Some line is held, whatever the memory is.
-holds-some : (space : List ℕ) (kept : ℕ) → (line : List ℕ) × Holds space kept line
+holds-some : (space : List ℕ) (kept : ℕ) → (line : List ℕ) × HoldsLine space kept line
 holds-some space kept = elim (lt-or-le (length space) kept) [
   | inl l ↦ (0 ∷ space, record { whole = λ m. absurd (omega arith); longer = λ m. omega arith })
   | inr l ↦ (take kept space, record { whole = λ m. refl; longer = λ m. absurd (omega arith) })

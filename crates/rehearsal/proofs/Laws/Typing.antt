@@ -15,12 +15,12 @@ use Rattle.text.specs.Put.{puts}
 use Rattle.text.proofs.Laws.Put.{puts-then}
 use Rattle.call_text.specs.Lines.{alone, askedOf}
 use Rattle.guarantee.specs.Runs.{State}
-use Rattle.line_answers.specs.Steps.{malformedText, carriedOut, answeredTo, Gives}
-use Rattle.rehearsal.specs.Desk.{Desk, askedIn, fedByte, takenUp, Holds, Stands}
+use Rattle.line_answers.specs.Steps.{malformedText, carriedOut, answeredTo, CarriedAs}
+use Rattle.rehearsal.specs.Desk.{Desk, askedIn, fedByte, takenUp, HoldsLine, Stands}
 
 -- A byte more in a space with room, and in one without.
-module _ (space : List ℕ) (kept byte : ℕ) (line : List ℕ) (h : Holds space kept line) where
-  pub holds-more : kept < length space → Holds (set space kept byte) (kept + 1) (line ++ (byte ∷ []))
+module _ (space : List ℕ) (kept byte : ℕ) (line : List ℕ) (h : HoldsLine space kept line) where
+  pub holds-more : kept < length space → HoldsLine (set space kept byte) (kept + 1) (line ++ (byte ∷ []))
   holds-more l = record {
     whole = λ m. rw (h .whole (omega arith), more) (sym (take-suc-set space kept byte l));
     longer = λ m. absurd (omega (arith, rw (length-set space kept byte) at m));
@@ -29,7 +29,7 @@ module _ (space : List ℕ) (kept byte : ℕ) (line : List ℕ) (h : Holds space
       more : kept + 1 ≡ suc kept
       more = omega arith
 
-  pub holds-no-more : length space ≤ kept → Holds space (length space + 1) (line ++ (byte ∷ []))
+  pub holds-no-more : length space ≤ kept → HoldsLine space (length space + 1) (line ++ (byte ∷ []))
   holds-no-more l = record {
     whole = λ m. absurd (omega arith);
     longer = λ m. omega (arith, length-append line (byte ∷ []), as-long);
@@ -41,18 +41,18 @@ module _ (space : List ℕ) (kept byte : ℕ) (line : List ℕ) (h : Holds space
         | inr m ↦ rw (h .whole m) (omega (arith, length-take-le kept space m))
       ]
 
-pub holds-nothing : (space : List ℕ) → Holds space 0 []
+pub holds-nothing : (space : List ℕ) → HoldsLine space 0 []
 holds-nothing space = record { whole = λ m. refl; longer = λ m. absurd (omega arith) }
 
 -- The line that ends: too long a one is malformed, and any other stands in the space.
 module _ (space : List ℕ) (kept : ℕ) (σ σ′ : State) (s t : ℕ × List ℕ) where
   pub held-long : length space < kept → σ′ ≡ σ → t ≡ puts s malformedText
-      → (line : List ℕ) → Holds space kept line → Gives (answeredTo (askedIn (length space) line) σ) σ′ s t
+      → (line : List ℕ) → HoldsLine space kept line → CarriedAs (answeredTo (askedIn (length space) line) σ) σ′ s t
   unfolding askedIn alone answeredTo carriedOut
   held-long l e q line h = rw (lt-leb _ _ (h .longer l)) (e, q)
 
-  pub held-whole : kept ≤ length space → Gives (answeredTo (askedOf (take (kept - 0) space)) σ) σ′ s t
-      → (line : List ℕ) → Holds space kept line → Gives (answeredTo (askedIn (length space) line) σ) σ′ s t
+  pub held-whole : kept ≤ length space → CarriedAs (answeredTo (askedOf (take (kept - 0) space)) σ) σ′ s t
+      → (line : List ℕ) → HoldsLine space kept line → CarriedAs (answeredTo (askedIn (length space) line) σ) σ′ s t
   unfolding askedIn
   held-whole l g line h =
       let short : length line ≤ length space = rw (h .whole l, length-take-le kept space l) l in
@@ -97,7 +97,7 @@ module _ (bytes space₀ out₀ : List ℕ) (σ₀ : State) (kept₀ : ℕ) wher
         rw (more, drop-cons bytes i 0 l, test)
 
     pub taking-line : i < length bytes → leb (filled + 8192) (length out) ≡ true → getD bytes i 0 ≡ 10
-        → (σ′ : State) (t : ℕ × List ℕ) → ((line : List ℕ) → Holds space kept line → Gives (answeredTo (askedIn (length space) line) σ) σ′ (filled, out) t)
+        → (σ′ : State) (t : ℕ × List ℕ) → ((line : List ℕ) → HoldsLine space kept line → CarriedAs (answeredTo (askedIn (length space) line) σ) σ′ (filled, out) t)
         → length (t .1) ≡ length out → TakingUp bytes space₀ out₀ σ₀ kept₀ (i + 1) σ′ space 0 t
     unfolding fedByte
     taking-line l room newline σ′ t g long = record {
@@ -117,7 +117,7 @@ module _ (bytes space₀ out₀ : List ℕ) (σ₀ : State) (kept₀ : ℕ) wher
         go (e, h, q) = (fedByte (length space₀) e (getD bytes i 0), answered e h, next-byte e h l room ∙ q)
 
     pub taking-byte : i < length bytes → leb (filled + 8192) (length out) ≡ true → (getD bytes i 0 ≡ 10 → ⊥)
-        → (space′ : List ℕ) (kept′ : ℕ) → ((line : List ℕ) → Holds space kept line → Holds space′ kept′ (line ++ (getD bytes i 0 ∷ [])))
+        → (space′ : List ℕ) (kept′ : ℕ) → ((line : List ℕ) → HoldsLine space kept line → HoldsLine space′ kept′ (line ++ (getD bytes i 0 ∷ [])))
         → length space′ ≡ length space → TakingUp bytes space₀ out₀ σ₀ kept₀ (i + 1) σ space′ kept′ (filled, out)
     unfolding fedByte
     taking-byte l room other space′ kept′ g long = record {
