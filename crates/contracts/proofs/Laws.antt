@@ -23,7 +23,7 @@ use Rattle.plan_listing.specs.Listing.{listingOf}
 use Rattle.typed_plan.specs.Assemble.{assembledOf}
 use Rattle.call_text.specs.Lines.{askedOf}
 use Rattle.line_answers.specs.Steps.{callOf, answeredTo, CarriedAs}
-use Rattle.rehearsal.proofs.Laws.Typing.{AllTaken}
+use Rattle.rehearsal.specs.Desk.{AllTaken}
 use Rattle.site_report.proofs.report.Reads as reports
 use Rattle.schedule_report.proofs.report_schedule.Reads as schedule-reports
 use Rattle.plan_listing.proofs.list_plan.Reads as listings

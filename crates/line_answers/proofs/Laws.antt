@@ -3,11 +3,18 @@
 pub mod Short
 use Prim.Native.Nat.{ℕ}
 use mathlib.Core.Path.{_≡_, refl, _∙_, ap}
+use mathlib.Core.Bool.{true}
 use mathlib.Core.List.{List}
 use Rattle.rulings.specs.Outcome.{Ruling}
 use Rattle.moves.specs.Hops.{Service, own}
 use Rattle.site.specs.declared.Site.{Site}
-use Rattle.text.specs.Put.{puts}
+use Rattle.site_check.specs.Check.{passesOf}
+use Rattle.plan_writer.specs.Write.{planBytes}
+use Rattle.plan.proofs.Laws.{written-read}
+use Rattle.text.specs.Put.{puts, textOf}
+use Rattle.site_report.specs.Report.{reportOf, reportLines}
+use Rattle.plan_listing.specs.Listing.{listingOf, listingLines}
+use Rattle.request_text.specs.declared.Question.the-variants.{Show, Typed}
 use Rattle.report_lines.specs.Lines.{verdictText}
 use Rattle.request_text.specs.declared.Call.{Call}
 use Rattle.request_text.specs.declared.Question.{Question}
@@ -51,3 +58,13 @@ module _ (asked : Asked) (σ : State) (s : ℕ × List ℕ) where
   pub nothing-known : (t : ℕ × List ℕ) → asked .line ≡ Malformed → t ≡ puts s malformedText → CarriedAs (answeredTo asked σ) σ s t
   unfolding answeredTo carriedOut
   nothing-known t e q = rw e (refl, q)
+
+-- On a site that passes check 14, `show` answers what `slotplan` prints of the site's plan bytes, and `typed` what `listing` prints of them.
+module _ (s : Site) (e : passesOf s ≡ true) where
+  pub show-reported : (counters : List ℕ) → textOf (questionText Show s counters) ≡ reportOf (planBytes s)
+  unfolding questionText reportOf reportLines
+  show-reported counters = rw (written-read s e .1)
+
+  pub typed-listed : (counters : List ℕ) → textOf (questionText Typed s counters) ≡ listingOf (planBytes s)
+  unfolding questionText listingOf listingLines
+  typed-listed counters = rw (written-read s e .1)

@@ -24,8 +24,7 @@ use Rattle.guarantee.specs.Runs.{State, Run, none, start, called}
 use Rattle.guarantee.specs.Demand.{Begins, Allowed, Kept}
 use Rattle.guarantee.specs.Words.{Sized}
 use Rattle.guarantee.proofs.Laws.{demand3, start-begins, promised, run-sized, start-sized}
-use Rattle.rehearsal.specs.Desk.{begun, desk, fed, AtDesk}
-use Rattle.rehearsal.proofs.Laws.Typing.{AllTaken}
+use Rattle.rehearsal.specs.Desk.{begun, desk, fed, AtDesk, AllTaken}
 use Rattle.rehearsal.proofs.Laws.Runs.{fed-append, typed-run}
 use Rattle.rehearsal.proofs.Laws.Whole.{answers-whole}
 

@@ -4,7 +4,7 @@ use mathlib.Core.Path.{_≡_}
 use mathlib.Core.Bool.{cond}
 use mathlib.Core.List.{List, [], _∷_, _++_}
 use lib.Dec.{eqb, leb}
-use lib.ListN.{length, take}
+use lib.ListN.{length, take, drop}
 use Rattle.text.specs.Put.{puts}
 use Rattle.request_text.specs.declared.Line.the-variants.{Malformed}
 use Rattle.call_text.specs.declared.Asked.{Asked}
@@ -76,3 +76,10 @@ pub record SomeTyped (σ₀ : State) (space₀ : List ℕ) (kept₀ : ℕ) (σ :
 pub record Stands (s : ℕ × List ℕ) (d : Desk) (σ : State) (space : List ℕ) (kept : ℕ) (t : ℕ × List ℕ) : Type 0 where
   pub at : AtDesk d σ space kept
   pub handed : t ≡ puts s (d .text)
+
+-- What taking up bytes comes to, wherever the rehearsal stood: so many of them were taken, those that have room for their answers, and the memory lent stands
+-- where these take it.
+abbrev pub AllTaken : List ℕ → List ℕ → List ℕ → State → ℕ → ℕ → State → List ℕ → ℕ → ℕ × List ℕ → Type 0
+AllTaken bytes space₀ out₀ σ₀ kept₀ taken σ space kept t =
+    (taken ≤ length bytes) × ((d : Desk) → Stands (0, out₀) d σ₀ space₀ kept₀ (0, out₀)
+    → Stands (0, out₀) (takenUp (length space₀) (0, out₀) d bytes .0) σ space kept t × (drop taken bytes ≡ takenUp (length space₀) (0, out₀) d bytes .1))

@@ -2,13 +2,13 @@
 use line_answers::Answered;
 use line_answers::answer_line;
 use site::Site;
-ghost use Prim.Native.Nat.{ℕ, _+_, _≤_};
+ghost use Prim.Native.Nat.{ℕ, _+_};
 ghost use mathlib.Core.Path.{_≡_};
 ghost use mathlib.Core.List.{List, [], _∷_, _++_};
 ghost use lib.Dec.{leb};
-ghost use lib.ListN.{length, drop};
+ghost use lib.ListN.{length};
 ghost use Rattle.line_answers.specs.Steps.{answeredTo, CarriedAs};
-ghost use Rattle.rehearsal.specs.Desk.{Desk, askedIn, takenUp, HoldsLine, Stands};
+ghost use Rattle.rehearsal.specs.Desk.{askedIn, HoldsLine, AllTaken};
 
 // The site as it is now, and how many bytes are kept of the line that has not ended: one more than its space has where it is too long.
 pub struct Rehearsal {
@@ -73,11 +73,8 @@ pub fn take_up(
     counters: &mut [u32],
     out: &mut [u8],
 ) -> TakenUp
-    ensures { λ r. ⌜ (r .taken ≤ length (now (bytes .entry)))
-        × ((d : Desk) → Stands (0, now (out .entry)) d (record { site = before .site; counters = now (counters .entry) }) (now (space .entry)) (before .kept) (0, now (out .entry))
-        → Stands (0, now (out .entry)) (takenUp (length (now (space .entry))) (0, now (out .entry)) d (now (bytes .entry)) .0)
-        (record { site = r .site; counters = now (counters .exit) }) (now (space .exit)) (r .kept) (r .filled, now (out .exit))
-        × (drop (r .taken) (now (bytes .entry)) ≡ takenUp (length (now (space .entry))) (0, now (out .entry)) d (now (bytes .entry)) .1)) ⌝ }
+    ensures { λ r. ⌜ AllTaken (now (bytes .entry)) (now (space .entry)) (now (out .entry)) (record { site = before .site; counters = now (counters .entry) })
+        (before .kept) (r .taken) (record { site = r .site; counters = now (counters .exit) }) (now (space .exit)) (r .kept) (r .filled, now (out .exit)) ⌝ }
 {
     let mut site = before.site;
     let mut kept = before.kept;

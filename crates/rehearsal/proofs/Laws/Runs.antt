@@ -21,8 +21,8 @@ use Rattle.call_text.specs.declared.Asked.{Asked}
 use Rattle.guarantee.specs.Runs.{State, Log, Run, then}
 use Rattle.guarantee.proofs.Laws.{promised}
 use Rattle.line_answers.specs.Steps.{callOf, carriedOut, answeredTo}
-use Rattle.rehearsal.specs.Desk.{Desk, askedIn, onward, fedByte, fed, takenUp, HoldsLine, AtDesk, GoesOn, SomeTyped, begun, desk}
-use Rattle.rehearsal.proofs.Laws.Typing.{AllTaken, holds-nothing}
+use Rattle.rehearsal.specs.Desk.{Desk, askedIn, onward, fedByte, fed, takenUp, HoldsLine, AtDesk, GoesOn, SomeTyped, begun, desk, AllTaken}
+use Rattle.rehearsal.proofs.Laws.Typing.{holds-nothing}
 
 -- Bytes that come in parts are those that come at once.
 pub fed-append : (room : ℕ) (d : Desk) (before behind : List ℕ) → fed room (fed room d before) behind ≡ fed room d (before ++ behind)

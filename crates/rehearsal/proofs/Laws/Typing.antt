@@ -16,7 +16,7 @@ use Rattle.text.proofs.Laws.Put.{puts-then}
 use Rattle.call_text.specs.Lines.{alone, askedOf}
 use Rattle.guarantee.specs.Runs.{State}
 use Rattle.line_answers.specs.Steps.{malformedText, carriedOut, answeredTo, CarriedAs}
-use Rattle.rehearsal.specs.Desk.{Desk, askedIn, fedByte, takenUp, HoldsLine, Stands}
+use Rattle.rehearsal.specs.Desk.{Desk, askedIn, fedByte, takenUp, HoldsLine, Stands, AllTaken}
 
 -- A byte more in a space with room, and in one without.
 module _ (space : List ℕ) (kept byte : ℕ) (line : List ℕ) (h : HoldsLine space kept line) where
@@ -75,12 +75,6 @@ pub record TakingUp (bytes space₀ out₀ : List ℕ) (σ₀ : State) (kept₀ 
   pub out-long : length (t .1) ≡ length out₀
   pub goes : (d : Desk) → Stands (0, out₀) d σ₀ space₀ kept₀ (0, out₀)
       → (e : Desk) × Stands (0, out₀) e σ space kept t × (takenUp (length space₀) (0, out₀) e (drop i bytes) ≡ takenUp (length space₀) (0, out₀) d bytes)
-
--- What is promised of them.
-abbrev pub AllTaken : List ℕ → List ℕ → List ℕ → State → ℕ → ℕ → State → List ℕ → ℕ → ℕ × List ℕ → Type 0
-AllTaken bytes space₀ out₀ σ₀ kept₀ taken σ space kept t =
-    (taken ≤ length bytes) × ((d : Desk) → Stands (0, out₀) d σ₀ space₀ kept₀ (0, out₀)
-    → Stands (0, out₀) (takenUp (length space₀) (0, out₀) d bytes .0) σ space kept t × (drop taken bytes ≡ takenUp (length space₀) (0, out₀) d bytes .1))
 
 module _ (bytes space₀ out₀ : List ℕ) (σ₀ : State) (kept₀ : ℕ) where
   pub taking-none : TakingUp bytes space₀ out₀ σ₀ kept₀ 0 σ₀ space₀ kept₀ (0, out₀)

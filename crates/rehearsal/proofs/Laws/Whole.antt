@@ -15,8 +15,7 @@ use Rattle.guarantee.specs.Words.{Sized}
 use Rattle.guarantee.proofs.Laws.{run-sized}
 use Rattle.line_answers.specs.Steps.{answeredTo}
 use Rattle.line_answers.proofs.Laws.Short.{answers-short}
-use Rattle.rehearsal.specs.Desk.{Desk, askedIn, onward, fedByte, fed, takenUp, AtDesk}
-use Rattle.rehearsal.proofs.Laws.Typing.{AllTaken}
+use Rattle.rehearsal.specs.Desk.{Desk, askedIn, onward, fedByte, fed, takenUp, AtDesk, AllTaken}
 use Rattle.rehearsal.proofs.Laws.Runs.{unanswered, carried-run, taken-leads}
 
 -- What a line leaves of a state that calls keep is such a state.
