@@ -1,5 +1,5 @@
 -- What is typed, in parts or at once, is a list of calls: each line that ends is carried out once, in its order.
-use Prim.Native.Nat.{ℕ, zero, suc, _+_, _-_, _≤_}
+use Prim.Native.Nat.{ℕ, zero, suc, _+_, _-_, _≤_, _<_}
 use mathlib.Core.Path.{_≡_, refl, sym, _∙_, ap}
 use mathlib.Core.Bool.{Bool, true, false, cond}
 use mathlib.Core.Logic.{inl, inr}
@@ -18,7 +18,7 @@ use Rattle.text.specs.Put.{puts}
 use Rattle.request_text.specs.declared.Line.{Line}
 use Rattle.request_text.specs.declared.Line.the-variants.{PassedOver, Makes, Asks, Malformed}
 use Rattle.call_text.specs.declared.Asked.{Asked}
-use Rattle.guarantee.specs.Runs.{State, Log, Run, then}
+use Rattle.guarantee.specs.Runs.{State, Log, Run, then, called}
 use Rattle.guarantee.proofs.Laws.{promised}
 use Rattle.line_answers.specs.Steps.{callOf, carriedOut, answeredTo}
 use Rattle.rehearsal.specs.Desk.{Desk, askedIn, onward, fedByte, fed, takenUp, HoldsLine, AtDesk, GoesOn, SomeTyped, begun, desk, AllTaken}
