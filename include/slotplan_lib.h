@@ -24,8 +24,9 @@
  * times the link's period, in packets.
  *
  * Each function lists its checks in their order.  The first that fails refuses the call, with its
- * number and a place; then all memory is as it was before.  The numbers are those of documents 01
- * and 02:
+ * number and a place; then all memory is as it was before.  Both are proved over all eleven
+ * functions: laws host-first and refused-leaves of the crate host_runs.  The numbers are those of
+ * documents 01 and 02:
  *
  *    1  a buffer to be filled is too short; any other list has not the length it must have
  *    2  the operands of a command are cut off, or there is no END
@@ -50,6 +51,13 @@
  *   21  in a schedule file, a LINK whose number does not follow on the one before (the first on 0),
  *       or a 64th LINK
  *   22  in a schedule file, a period that is 0 or above 1,024, or an offset not below its period
+ *
+ * Over lists of calls: a host hands each slot, admission and release the plan bytes and the counters
+ * that the last of these left.  After an accepted change the first bytes of out, as many as the
+ * value says, are its plan; after a refused one the old bytes still are.  Then what demand 3 claims
+ * holds for every flow that begins with cells of 0, stays admitted and gets at most its rate in a
+ * slot, while no rehearsal starts anew and the numbers of accepted slots rise by one: law
+ * host-demand3 of the crate host_runs.  Calls of the other functions may stand anywhere between.
  */
 #ifndef SLOTPLAN_LIB_H
 #define SLOTPLAN_LIB_H
