@@ -51,7 +51,13 @@ same-length-2 : tie.Need-same-length-2
 same-length-2 c = search needs
 
 returns-2 : tie.Need-returns-2
-returns-2 c = rw (← c .before .before .before .before .before .before .before .before .before .before .before .before .before .before .before .before .before .before .read-line .ensures) (call-made _ _ _ _ _ _ _ (c .before .before .before .before .before .before .before .before .before .before .before .before .before .before .before .read .given .1) (c .before .before .before .before .before .before .before .before .before .before .before .make-call .ensures) (puts-then _ _ _ _ _ (c .before .before .before .before .before .before .put-verdict .ensures) (c .before .before .end-line .ensures)))
+returns-2 c =
+    let told = c .before .before .before .before .before .before in
+    let made = told .before .before .before .before .before in
+    let asked = made .before .before .before .before in
+    rw (← asked .before .before .before .read-line .ensures)
+    (call-made _ _ _ _ _ _ _ (asked .read .given .1) (made .make-call .ensures)
+    (puts-then _ _ _ _ _ (told .put-verdict .ensures) (c .before .before .end-line .ensures)))
 
 same-length-3 : tie.Need-same-length-3
 same-length-3 c = search needs
@@ -60,13 +66,18 @@ same-length-4 : tie.Need-same-length-4
 same-length-4 c = search needs
 
 returns-3 : tie.Need-returns-3
-returns-3 c = rw (← c .before .before .before .before .before .before .before .before .before .read-line .ensures) (question-asked _ _ _ _ _ (c .before .before .before .before .before .before .read2 .given .1) (c .before .before .put-answer .ensures))
+returns-3 c =
+    let asked = c .before .before .before .before .before .before in
+    rw (← asked .before .before .before .read-line .ensures) (question-asked _ _ _ _ _ (asked .read2 .given .1) (c .before .before .put-answer .ensures))
 
 same-length-5 : tie.Need-same-length-5
 same-length-5 c = search needs
 
 returns-4 : tie.Need-returns-4
-returns-4 c = rw (← c .before .before .before .before .before .before .before .before .read-line .ensures) (nothing-known _ _ _ _ (c .before .before .before .before .before .enum-told2 .given .1) (puts-one _ _ _ (c .before .before .put .ensures)))
+returns-4 c =
+    let asked = c .before .before .before .before .before in
+    rw (← asked .before .before .before .read-line .ensures)
+    (nothing-known _ _ _ _ (asked .enum-told2 .given .1) (puts-one _ _ _ (c .before .before .put .ensures)))
 
 pub answer-line-spec : {M : Type 1} → statement M
 answer-line-spec =

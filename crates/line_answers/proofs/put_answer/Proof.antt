@@ -70,35 +70,47 @@ same-length c = search needs
 
 returns : tie.Need-returns
 unfolding questionText
-returns c = rw (c .before .before .before .before .before .before .before .before .before .before .question .given .1, ← c .before .before .before .before .before .before .before .before .sender .ensures) (puts-then _ _ _ _ _ (c .before .before .before .before .before .before .put-lookup .ensures) (c .before .before .end-line .ensures))
+returns c =
+    let told = c .before .before .before .before .before .before in
+    let asked = told .before .before .before .before in
+    rw (asked .question .given .1, ← told .before .before .sender .ensures)
+    (puts-then _ _ _ _ _ (told .put-lookup .ensures) (c .before .before .end-line .ensures))
 
 same-length-2 : tie.Need-same-length-2
 same-length-2 c = search needs
 
 returns-2 : tie.Need-returns-2
 unfolding questionText
-returns-2 c = rw (c .before .before .before .before .before .before .before .before .before .question2 .given .1) (puts-then _ _ _ _ _ (c .before .before .before .before .before .before .put-cells .ensures) (c .before .before .end-line2 .ensures))
+returns-2 c =
+    let told = c .before .before .before .before .before .before in
+    rw (told .before .before .before .question2 .given .1) (puts-then _ _ _ _ _ (told .put-cells .ensures) (c .before .before .end-line2 .ensures))
 
 same-length-3 : tie.Need-same-length-3
 same-length-3 c = search needs
 
 returns-3 : tie.Need-returns-3
 unfolding questionText
-returns-3 c = rw (c .before .before .before .before .before .before .before .before .before .question3 .given .1) (puts-then _ _ _ _ _ (c .before .before .before .before .before .before .put-bound .ensures) (c .before .before .end-line3 .ensures))
+returns-3 c =
+    let told = c .before .before .before .before .before .before in
+    rw (told .before .before .before .question3 .given .1) (puts-then _ _ _ _ _ (told .put-bound .ensures) (c .before .before .end-line3 .ensures))
 
 same-length-4 : tie.Need-same-length-4
 same-length-4 c = search needs
 
 returns-4 : tie.Need-returns-4
 unfolding questionText
-returns-4 c = rw (c .before .before .before .before .before .before .before .before .enum-told .given .1) (puts-then _ _ _ _ _ (c .before .before .before .before .before .before .put-plan .ensures) (c .before .before .end-line4 .ensures))
+returns-4 c =
+    let told = c .before .before .before .before .before .before in
+    rw (told .before .before .enum-told .given .1) (puts-then _ _ _ _ _ (told .put-plan .ensures) (c .before .before .end-line4 .ensures))
 
 same-length-5 : tie.Need-same-length-5
 same-length-5 c = search needs
 
 returns-5 : tie.Need-returns-5
 unfolding questionText
-returns-5 c = rw (c .before .before .before .before .before .before .before .before .enum-told2 .given .1) (puts-then _ _ _ _ _ (c .before .before .before .before .before .before .put-schedule .ensures) (c .before .before .end-line5 .ensures))
+returns-5 c =
+    let told = c .before .before .before .before .before .before in
+    rw (told .before .before .enum-told2 .given .1) (puts-then _ _ _ _ _ (told .put-schedule .ensures) (c .before .before .end-line5 .ensures))
 
 same-length-6 : tie.Need-same-length-6
 same-length-6 c = search needs

@@ -166,7 +166,8 @@ part-long : (bytes : List ℕ) (from : ℕ) → from ≤ length bytes → length
 part-long bytes from l = length-take-le (length bytes - from) (drop from bytes) (omega (arith, length-drop from bytes))
 
 -- Of the slice from `from` on at least one byte is taken up, and none beyond its end ..
-pub part-taken : (σ : State) (space : List ℕ) (kept : ℕ) (σ′ : State) (space′ : List ℕ) (kept′ : ℕ) (bytes out : List ℕ) (from taken : ℕ) (t : ℕ × List ℕ) → from < length bytes → 8192 ≤ length out
+pub part-taken : (σ : State) (space : List ℕ) (kept : ℕ) (σ′ : State) (space′ : List ℕ) (kept′ : ℕ) (bytes out : List ℕ) (from taken : ℕ) (t : ℕ × List ℕ)
+    → from < length bytes → 8192 ≤ length out
     → AllTaken (take (length bytes - from) (drop from bytes)) space out σ kept taken σ′ space′ kept′ t → (1 ≤ taken) × (from + taken ≤ length bytes)
 part-taken σ space kept σ′ space′ kept′ bytes out from taken t l room w =
     let long = part-long bytes from (omega arith) in

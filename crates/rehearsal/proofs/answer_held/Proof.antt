@@ -37,7 +37,8 @@ same-length-3 : tie.Need-same-length-3
 same-length-3 c = search needs
 
 returns-2 : tie.Need-returns-2
-returns-2 c = held-whole _ _ _ _ _ _ (c .before .before .before .before .before .before .before .before .if1 .left) (c .before .before .before .before .answer-line .ensures)
+returns-2 c =
+    let told = c .before .before .before .before in held-whole _ _ _ _ _ _ (told .before .before .before .before .if1 .left) (told .answer-line .ensures)
 
 pub answer-held-spec : {M : Type 1} → statement M
 answer-held-spec =

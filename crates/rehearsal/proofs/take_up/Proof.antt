@@ -39,12 +39,21 @@ loop-less : tie.Need-loop-less Inv-loop μ-loop
 loop-less c = search needs
 
 loop-again : tie.Need-loop-again Inv-loop μ-loop
-loop-again c = elim (c .if2 .came) [
-  | inl w ↦ rw (w .10, w .11, w .12, w .13, w .14, w .15)
-      (taking-line _ _ _ _ _ _ _ _ _ _ _ (c .before .before .before .before .before .loop .inv .0) (c .before .before .before .before .loop-test .taken) (sym (c .before .before .before .roomy .ensures) ∙ not-false _ (c .before .before .if1 .left)) (w .0 .taken) _ _ (w .4 .ensures) (search needs), search needs)
-  | inr w ↦ rw (w .5, w .6, w .7, w .8, w .9, w .10)
-      (taking-byte _ _ _ _ _ _ _ _ _ _ _ (c .before .before .before .before .before .loop .inv .0) (c .before .before .before .before .loop-test .taken) (sym (c .before .before .before .roomy .ensures) ∙ not-false _ (c .before .before .if1 .left)) (w .0 .left) _ _ (w .2 .ensures) (search needs), search needs)
-]
+loop-again c =
+    let room = c .before .before .before in
+    let turn = room .before .before in
+    elim (c .if2 .came) [
+      | inl w ↦ rw (w .10, w .11, w .12, w .13, w .14, w .15) (
+        taking-line _ _ _ _ _ _ _ _ _ _ _ (turn .loop .inv .0) (room .before .loop-test .taken) (sym (room .roomy .ensures) ∙ not-false _ (c .before .before .if1 .left))
+            (w .0 .taken) _ _ (w .4 .ensures) (search needs),
+        search needs,
+      )
+      | inr w ↦ rw (w .5, w .6, w .7, w .8, w .9, w .10) (
+        taking-byte _ _ _ _ _ _ _ _ _ _ _ (turn .loop .inv .0) (room .before .loop-test .taken) (sym (room .roomy .ensures) ∙ not-false _ (c .before .before .if1 .left))
+            (w .0 .left) _ _ (w .2 .ensures) (search needs),
+        search needs,
+      )
+    ]
 
 same-length : tie.Need-same-length Inv-loop μ-loop
 same-length c = search needs
@@ -68,7 +77,9 @@ same-length-6 : tie.Need-same-length-6 Inv-loop μ-loop
 same-length-6 c = search needs
 
 returns-2 : tie.Need-returns-2 Inv-loop μ-loop
-returns-2 c = taken-full _ _ _ _ _ _ _ _ _ _ _ (c .before .before .before .loop .inv .0) (c .before .before .loop-test .taken) (sym (c .before .roomy .ensures) ∙ not-true _ (c .if1 .taken))
+returns-2 c =
+    let turn = c .before .before .before in
+    taken-full _ _ _ _ _ _ _ _ _ _ _ (turn .loop .inv .0) (c .before .before .loop-test .taken) (sym (c .before .roomy .ensures) ∙ not-true _ (c .if1 .taken))
 
 pub take-up-spec : {M : Type 1} → statement M
 take-up-spec =

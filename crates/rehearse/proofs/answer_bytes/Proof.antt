@@ -52,9 +52,10 @@ on : (c : tie.After-struct-known Inv-loop μ-loop)
     → (1 ≤ c .before .before .before .before .before .before .before .before .before .take-up .result .taken)
     × (c .before .before .before .before .before .before .before .before .before .before .before .before .before .before .before .loop .from + c .before .before .before .before .before .before .before .before .before .take-up .result .taken ≤ length (c .before .before .before .before .before .before .before .before .before .before .before .before .before .before .before .before .before .before .before .before .args .bytes .now))
 on c =
-    let turn = c .before .before .before .before .before .before .before .before .before .before .before .before .before .before .before in
+    let took = c .before .before .before .before .before .before .before .before .before in
+    let turn = took .before .before .before .before .before .before in
     let room : 8192 ≤ length (turn .loop .out) = omega (arith, turn .loop .inv .3) in
-    part-taken _ _ _ _ _ _ (turn .before .before .before .before .before .args .bytes .now) _ (turn .loop .from) _ _ (c .before .before .before .before .before .before .before .before .before .before .before .before .before .before .loop-test .taken) room (c .before .before .before .before .before .before .before .before .before .take-up .ensures)
+    part-taken _ _ _ _ _ _ (turn .before .before .before .before .before .args .bytes .now) _ (turn .loop .from) _ _ (took .before .before .before .before .before .loop-test .taken) room (took .take-up .ensures)
 
 add-from : tie.Need-add-from Inv-loop μ-loop
 add-from c = omega (arith, few (c .before .before .before .before .before .before .before .before .before .before .before .before .before .before .before .before .before .before .before), on c)
@@ -64,8 +65,15 @@ loop-less c = omega (arith, c .before .before .before .before .before .before .b
 
 loop-again : tie.Need-loop-again Inv-loop μ-loop
 loop-again c =
-    let inv = c .before .before .before .before .before .before .before .before .before .before .before .before .before .before .before .loop .inv in
-    (on c .1, search needs, search needs, search needs, goes-part _ _ _ _ _ _ _ _ _ (c .before .before .before .before .before .before .before .before .before .before .before .before .before .before .before .before .before .before .before .before .args .bytes .now) _ (c .before .before .before .before .before .before .before .before .before .before .before .before .before .before .before .loop .from) _ _ (inv .0) (inv .4) (inv .1) (c .before .before .before .before .before .before .before .before .before .take-up .ensures))
+    let took = c .before .before .before .before .before .before .before .before .before in
+    let turn = took .before .before .before .before .before .before in
+    let inv = turn .loop .inv in (
+      on c .1,
+      search needs,
+      search needs,
+      search needs,
+      goes-part _ _ _ _ _ _ _ _ _ (turn .before .before .before .before .before .args .bytes .now) _ (turn .loop .from) _ _ (inv .0) (inv .4) (inv .1) (took .take-up .ensures),
+    )
 
 same-length : tie.Need-same-length Inv-loop μ-loop
 same-length c = search needs

@@ -29,7 +29,10 @@ same-length c = search needs
 
 returns : tie.Need-returns
 returns c =
-    rehearsed _ _ _ _ _ _ _ _ _ _ _ (c .before .before .before .before .before .before .before .before .before .before .before .before .before .before .before .before .start .ensures) (length-replicate {A = ℕ} 1000 0) (c .before .before .before .before .before .before .before .before .before .before .before .answer-input .ensures) (search needs) _ (c .before .before .before .before .answer-bytes .ensures)
+    let last = c .before .before .before .before in
+    let ended = last .before .before .before .before .before .before .before in
+    rehearsed _ _ _ _ _ _ _ _ _ _ _ (ended .before .before .before .before .before .start .ensures) (length-replicate {A = ℕ} 1000 0) (ended .answer-input .ensures) (search needs) _
+    (last .answer-bytes .ensures)
 
 pub rehearse-site-spec : {M : Type 1} → statement M
 rehearse-site-spec =
