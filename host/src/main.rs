@@ -12,6 +12,7 @@ mod second;
 mod statements;
 
 use commands::statements::check_statements;
+use commands::weakened::try_weakened;
 use commands::{bad_hosts, bench, compare, compare_library, expected};
 use std::path::Path;
 use std::process::ExitCode;
@@ -19,7 +20,7 @@ use std::process::ExitCode;
 const USAGE: &str =
     "host bad-hosts N SEED\nhost bench [growth]\nhost expected [--write]\nhost library N SEED\n\
     host random N SEED [--bin DIR]\nhost repeat ROW SITE rattle|rust N\n\
-    host statements [--write]\nhost watch N SEED";
+    host statements [--write]\nhost watch N SEED\nhost weakened [CRATE ...]";
 
 /// A command that takes how many inputs to make, and from which seed.
 fn seeded(count: &str, seed: &str, command: impl Fn(u64, u64) -> u8) -> Option<u8> {
@@ -49,6 +50,7 @@ fn status(words: &[&str]) -> Option<u8> {
         ["statements"] => Some(check_statements(false)),
         ["statements", "--write"] => Some(check_statements(true)),
         ["watch", count, seed] => seeded(count, seed, compare::watch_random),
+        ["weakened", ref crates @ ..] => Some(try_weakened(crates)),
         _ => None,
     }
 }

@@ -1,5 +1,5 @@
 //! The commands of this program: comparisons of the programs and of the library with the second implementation, the watch over
-//! demand 3, and times.
+//! demand 3, contracts weakened on purpose, and times.
 
 pub mod bad_hosts;
 pub mod bench;
@@ -12,3 +12,4 @@ pub mod rehearsal;
 pub mod shrink;
 pub mod statements;
 pub mod watch;
+pub mod weakened;

@@ -1,13 +1,13 @@
 //! docs/STATEMENTS.md: the contracts of all public functions, the laws that docs/CLAIMS.md names, and the definitions that these name, as they stand in the
 //! sources; and whether docs/CLAIMS.md names what is there.
 
-mod antt;
+pub mod antt;
 mod book;
 mod claims;
-mod imports;
+pub mod imports;
 mod known;
 mod rattle;
-mod sources;
+pub mod sources;
 
 use crate::programs::lines::first_difference;
 use antt::Section;
