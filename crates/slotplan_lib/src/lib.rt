@@ -75,8 +75,7 @@ pub extern "C" fn slotplan_release(
     number: u8,
     out: &mut [u8],
 ) -> u64
-    ensures { λ r. ⌜ (told r, now (counters .exit), now (out .exit))
-        ≡ releaseFrom (now (plan .entry)) (now (counters .entry)) number (now (out .entry)) ⌝ }
+    ensures { λ r. ⌜ (told r, now (counters .exit), now (out .exit)) ≡ releaseFrom (now (plan .entry)) (now (counters .entry)) number (now (out .entry)) ⌝ }
 {
     host_changes::release(plan, counters, number, out)
 }
@@ -121,8 +120,7 @@ pub extern "C" fn slotplan_bound(plan: &[u8], number: u8) -> u64
 // 01 wants the slot rule by itself, for those who have neither a plan nor flows.
 #[no_mangle]
 pub extern "C" fn slotplan_assign(gaps: &[u16], offsets: &mut [u16], periods: &mut [u16]) -> u64
-    ensures { λ r. ⌜ (told r, now (offsets .exit), now (periods .exit))
-        ≡ assigned 2 (now (gaps .entry)) (now (offsets .entry)) (now (periods .entry)) ⌝ }
+    ensures { λ r. ⌜ (told r, now (offsets .exit), now (periods .exit)) ≡ assigned 2 (now (gaps .entry)) (now (offsets .entry)) (now (periods .entry)) ⌝ }
 {
     host_lists::assign(gaps, offsets, periods)
 }
