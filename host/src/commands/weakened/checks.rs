@@ -27,6 +27,11 @@ fn not_proved(line: &str) -> Option<(&str, &str)> {
     Some((name, status.split(',').next()?))
 }
 
+/// `fn CRATE::FUNCTION: not proved`.
+fn unproved_function(line: &str) -> Option<&str> {
+    line.strip_prefix("fn ")?.strip_suffix(": not proved")
+}
+
 /// What `rt check` printed, read: each crate's lines stand together, and its verdict is the last of them. An end that is no verdict of the prover is an error.
 pub fn read(printed: &str, top: &Path) -> Result<Checked, String> {
     let top = format!("{}/", top.display());
@@ -34,8 +39,10 @@ pub fn read(printed: &str, top: &Path) -> Result<Checked, String> {
     let mut refused = None;
     let mut unproved = Vec::new();
     for line in printed.lines() {
-        if let Some(function) = line.strip_prefix("fn ") {
-            unproved.extend(function.strip_suffix(": not proved").map(str::to_string));
+        if let Some(function) = unproved_function(line) {
+            unproved.push(function.to_string());
+            // Of a function with no proof of its own there is no other line.
+            errors.push(line.to_string());
         }
         if line.contains(": error: ") {
             errors.push(line.replace(&top, "").chars().take(SHOWN).collect());

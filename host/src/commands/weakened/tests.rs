@@ -241,6 +241,15 @@ fn the_first_refused_crate_is_told_with_its_first_error() {
     assert_eq!(read(PRINTED, Path::new("/scratch")).unwrap(), expected);
 }
 
+/// Of such a function `rt` tells no more.
+#[test]
+fn a_function_without_a_proof_of_its_own_is_told_by_its_name() {
+    let told = |line: &&str| !line.contains("error: ") && !line.contains("gate");
+    let printed: Vec<&str> = PRINTED.lines().filter(told).collect();
+    let checked = read(&printed.join("\n"), Path::new("/scratch")).unwrap();
+    assert_eq!(checked.refused.unwrap().error, "fn hall::enter: not proved");
+}
+
 /// A check that proves all, one that could not tell, and a refusal without an error.
 #[test]
 fn only_a_verdict_of_the_prover_is_a_refusal() {
@@ -249,6 +258,6 @@ fn only_a_verdict_of_the_prover_is_a_refusal() {
     assert_eq!(proved.refused, None);
     let could_not_tell = PRINTED.replace("exit 1", "exit 3");
     assert!(read(&could_not_tell, top).is_err());
-    let without_error = PRINTED.replace("error: ", "note: ");
-    assert!(read(&without_error, top).is_err());
+    let without_error = "rt: hall NOT PROVED (exit 1, 18 s)\n";
+    assert!(read(without_error, top).is_err());
 }
