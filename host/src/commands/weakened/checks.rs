@@ -27,9 +27,11 @@ fn not_proved(line: &str) -> Option<(&str, &str)> {
     Some((name, status.split(',').next()?))
 }
 
-/// `fn CRATE::FUNCTION: not proved`.
+/// `fn CRATE::FUNCTION: not proved`, or where rt was to find the proof, `fn CRATE::FUNCTION: no proof: ..`.
 fn unproved_function(line: &str) -> Option<&str> {
-    line.strip_prefix("fn ")?.strip_suffix(": not proved")
+    let (function, told) = line.strip_prefix("fn ")?.split_once(": ")?;
+    let is_unproved = told == "not proved" || told.starts_with("no proof");
+    is_unproved.then_some(function)
 }
 
 /// What `rt check` printed, read: each crate's lines stand together, and its verdict is the last of them. An end that is no verdict of the prover is an error.
@@ -41,8 +43,8 @@ pub fn read(printed: &str, top: &Path) -> Result<Checked, String> {
     for line in printed.lines() {
         if let Some(function) = unproved_function(line) {
             unproved.push(function.to_string());
-            // Of a function with no proof of its own there is no other line.
-            errors.push(line.to_string());
+            // Of a function whose proof rt was to find there is no error.
+            errors.push(line.replace(&top, "").chars().take(SHOWN).collect());
         }
         if line.contains(": error: ") {
             errors.push(line.replace(&top, "").chars().take(SHOWN).collect());

@@ -241,13 +241,20 @@ fn the_first_refused_crate_is_told_with_its_first_error() {
     assert_eq!(read(PRINTED, Path::new("/scratch")).unwrap(), expected);
 }
 
-/// Of such a function `rt` tells no more.
+const WITHOUT_ERROR: &str = "\
+note: /scratch/crates/hall/src/lib.rt:100:1: it is not proved that what the function ensures holds
+fn hall::enter: proved
+fn hall::leave: no proof: expected `leave-spec` in /scratch/crates/hall/proofs/leave/Proof.antt
+rt: hall NOT PROVED (exit 1, 12 s)
+";
+
 #[test]
-fn a_function_without_a_proof_of_its_own_is_told_by_its_name() {
-    let told = |line: &&str| !line.contains("error: ") && !line.contains("gate");
-    let printed: Vec<&str> = PRINTED.lines().filter(told).collect();
-    let checked = read(&printed.join("\n"), Path::new("/scratch")).unwrap();
-    assert_eq!(checked.refused.unwrap().error, "fn hall::enter: not proved");
+fn a_function_that_rt_finds_no_proof_of_is_told_as_unproved() {
+    let checked = read(WITHOUT_ERROR, Path::new("/scratch")).unwrap();
+    let expected =
+        "fn hall::leave: no proof: expected `leave-spec` in crates/hall/proofs/leave/Proof.antt";
+    assert_eq!(checked.refused.unwrap().error, expected);
+    assert_eq!(checked.unproved, ["hall::leave"]);
 }
 
 /// A check that proves all, one that could not tell, and a refusal without an error.
