@@ -17,12 +17,19 @@ use Rattle.sender.specs.Sender.{found, senderOf}
 use Rattle.moves.specs.Hops.{own}
 use Rattle.guarantee.specs.Runs.{slot, admit, release, start, Promise}
 use Rattle.pinwheel.specs.Answers.{outcome}
-use Rattle.site_report.specs.Report.{reportOf}
+use Rattle.text.specs.Put.{puts}
+use Rattle.line_words.specs.Words.{wordStart, wordEnd, operandAt}
+use Rattle.line_words.proofs.next_word.Reads as next-words
+use Rattle.line_words.proofs.next_operand.Reads as operands
+use Rattle.site_report.specs.Report.{reportOf, siteLines}
+use Rattle.site_report.proofs.put_site.Reads as printed-sites
+use Rattle.plan_listing.proofs.put_plan.Reads as typed-sites
+use Rattle.line_answers.proofs.put_answer.Reads as questions
 use Rattle.schedule_report.specs.Report.{scheduleReportOf}
-use Rattle.plan_listing.specs.Listing.{listingOf}
+use Rattle.plan_listing.specs.Listing.{listingOf, siteTyped}
 use Rattle.typed_plan.specs.Assemble.{assembledOf}
 use Rattle.call_text.specs.Lines.{askedOf}
-use Rattle.line_answers.specs.Steps.{callOf, answeredTo, CarriedAs}
+use Rattle.line_answers.specs.Steps.{callOf, questionText, answeredTo, CarriedAs}
 use Rattle.rehearsal.specs.Desk.{AllTaken}
 use Rattle.site_report.proofs.report.Reads as reports
 use Rattle.schedule_report.proofs.report_schedule.Reads as schedule-reports
@@ -153,3 +160,21 @@ pub taking-up : (κs : _) (a : _) (r : _) (x : _) → taken.Post κs a r x
     → AllTaken (a .0 .now) (a .1 .1 .0 .now) (a .1 .1 .1 .1 .0 .now) (record { site = a .1 .0 .site; counters = a .1 .1 .1 .0 .now }) (a .1 .0 .kept) (r .taken)
     (record { site = r .site; counters = x .1 .1 .1 .0 .now }) (x .1 .1 .0 .now) (r .kept) (r .filled, x .1 .1 .1 .1 .0 .now)
 taking-up κs a r x p = p
+
+-- What stands in a text: the answer to a question, a site's lines as printed and as typed; where the next word stands, and the operand that it is.
+pub question-answering : (κs : _) (a : _) (r : _) (x : _) → questions.Post κs a r x
+    → (r, x .0 .now) ≡ puts (a .1 .0, a .0 .now) (questionText (a .1 .1 .0) (a .1 .1 .1 .0) (a .1 .1 .1 .1 .0 .now))
+question-answering κs a r x p = p
+
+pub site-printing : (κs : _) (a : _) (r : _) (x : _) → printed-sites.Post κs a r x → (r, x .0 .now) ≡ puts (a .1 .0, a .0 .now) (siteLines (a .1 .1 .0))
+site-printing κs a r x p = p
+
+pub site-typing : (κs : _) (a : _) (r : _) (x : _) → typed-sites.Post κs a r x → (r, x .0 .now) ≡ puts (a .1 .0, a .0 .now) (siteTyped (a .1 .1 .0))
+site-typing κs a r x p = p
+
+pub word-finding : (κs : _) (a : _) (r : _) (x : _) → next-words.Post κs a r x
+    → (r .start ≡ wordStart (a .0 .now) (a .1 .0)) × (r .end ≡ wordEnd (a .0 .now) (a .1 .0))
+word-finding κs a r x p = (p .begins, p .ends)
+
+pub operand-reading : (κs : _) (a : _) (r : _) (x : _) → operands.Post κs a r x → r ≡ operandAt (a .0 .now) (a .1 .0) (a .1 .1 .0)
+operand-reading κs a r x p = p .3
