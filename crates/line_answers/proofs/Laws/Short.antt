@@ -63,6 +63,19 @@ unfoldable Told : Checks → Type 0
 Told none = Unit
 Told (check number fails rest) = (1 ≤ number) × (number ≤ 22) × ((p : ℕ) → fails p → p ≤ 763) × (Passed fails → Told rest)
 
+told-none : Told none
+unfolding Told
+told-none = tt
+
+at : (number : ℕ) (fails : ℕ → Type 0) (rest : Checks) → (1 ≤ number) × (number ≤ 22) → ((p : ℕ) → fails p → p ≤ 763) → (Passed fails → Told rest)
+    → Told (check number fails rest)
+unfolding Told
+at number fails rest l near w = (l .0, l .1, near, w)
+
+at-0 : (number : ℕ) (fails : ℕ → Type 0) (rest : Checks) → (1 ≤ number) × (number ≤ 22) → (Passed (λ p. fails p × (p ≡ 0)) → Told rest)
+    → Told (check number (λ p. fails p × (p ≡ 0)) rest)
+at-0 number fails rest l w = at number (λ p. fails p × (p ≡ 0)) rest l (λ p q. omega (arith, q .1)) w
+
 -- A refusal by such checks takes one short line.
 refusal-told : {A : Type 0} (gives : A → Type 0) (cs : Checks) (number place : ℕ) → Told cs → Ruled gives cs (refused number place)
     → length (textOf (refusalLine number place)) ≤ 8192
@@ -86,93 +99,22 @@ module _ (σ : State) (w : Sound (σ .site)) where
   ]
 
   calls-told : (c : runs.Call) → Told (checksOf c σ)
-  unfolding Told checksOf
-  calls-told (slot t xs) = (
-    omega arith,
-    omega arith,
-    λ p q. omega (arith, q .1),
-    λ _. (
-      omega arith,
-      omega arith,
-      λ p q. omega (arith, q .1),
-      λ _. (
-        omega arith,
-        omega arith,
-        λ p q. omega (arith, q .1),
-        λ _. (
-          omega arith,
-          omega arith,
-          λ p q. omega (arith, q .few),
-          λ _.
-              (omega arith, omega arith, λ p q. omega (arith, q .few), λ _. tt),
-        ),
-      ),
-    ),
-  )
-  calls-told (admit f) = (
-    omega arith,
-    omega arith,
-    λ p q. omega (arith, q .1),
-    λ _. (
-      omega arith,
-      omega arith,
-      λ p q. omega (arith, q .1),
-      λ _. (
-        omega arith,
-        omega arith,
-        λ p q. omega (arith, q .1),
-        λ within. (
-          omega arith,
-          omega arith,
-          λ p q. omega (arith, q .1),
-          λ enters. (
-            omega arith,
-            omega arith,
-            λ p q. omega (arith, q .1, number-few f within),
-            λ _. (
-              omega arith,
-              omega arith,
-              λ p q. omega (arith, link-few f enters p q),
-              λ _.
-                  (omega arith, omega arith, λ p q. omega (arith, q .1, number-few f within), λ _. tt),
-            ),
-          ),
-        ),
-      ),
-    ),
-  )
-  calls-told (release n) = (
-    omega arith,
-    omega arith,
-    λ p q. omega (arith, q .1),
-    λ _. (
-      omega arith,
-      omega arith,
-      λ p q. omega (arith, q .1),
-      λ _. (
-        omega arith,
-        omega arith,
-        λ p q. omega (arith, q .1),
-        λ few.
-            (omega arith, omega arith, λ p q. omega (arith, q .1, released few), λ _. tt),
-      ),
-    ),
-  )
+  unfolding checksOf
+  calls-told (slot t xs) =
+      at-0 1 _ _ (omega arith) (λ _. at-0 1 _ _ (omega arith) (λ _. at-0 14 _ _ (omega arith) (λ _.
+      at 19 _ _ (omega arith) (λ p q. omega (arith, q .few)) (λ _. at 20 _ _ (omega arith) (λ p q. omega (arith, q .few)) (λ _. told-none)))))
+  calls-told (admit f) =
+      at-0 1 _ _ (omega arith) (λ _. at-0 14 _ _ (omega arith) (λ _. at-0 5 _ _ (omega arith) (λ within. at-0 6 _ _ (omega arith) (λ enters.
+      at 15 _ _ (omega arith) (λ p q. omega (arith, q .1, number-few f within)) (λ _.
+      at 17 _ _ (omega arith) (λ p q. omega (arith, link-few f enters p q)) (λ _.
+      at 18 _ _ (omega arith) (λ p q. omega (arith, q .1, number-few f within)) (λ _. told-none)))))))
+  calls-told (release n) =
+      at-0 1 _ _ (omega arith) (λ _. at-0 14 _ _ (omega arith) (λ _. at-0 5 _ _ (omega arith) (λ few.
+      at 16 _ _ (omega arith) (λ p q. omega (arith, q .1, released few)) (λ _. told-none))))
     where
       released : Passed (λ p. (63 < n) × (p ≡ 0)) → n ≤ 63
       released few = elim (lt-or-le 63 n) [ inl l ↦ absurd (few 0 (l, refl)) | inr l ↦ l ]
-  calls-told start = (
-    omega arith,
-    omega arith,
-    λ p q. omega (arith, q .1),
-    λ _. (
-      omega arith,
-      omega arith,
-      λ p q. omega (arith, q .1),
-      λ _.
-          tt,
-    ),
-  )
+  calls-told start = at-0 1 _ _ (omega arith) (λ _. at-0 14 _ _ (omega arith) (λ _. told-none))
 
   -- So the answer of a call is short.
   verdict-short : (c : runs.Call) → length (textOf (asLine (verdictText (called own c σ .0)))) ≤ 8192
