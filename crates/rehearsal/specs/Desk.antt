@@ -44,6 +44,7 @@ fedByte room d c =
     cond (eqb c 10) (onward d (answeredTo (askedIn room (d .line)) (d .state)))
     (record { calls = d .calls; state = d .state; line = d .line ++ (c ∷ []); text = d .text })
 
+-- Bytes one after the other.
 unfoldable pub fed : ℕ → Desk → List ℕ → Desk
 fed room d [] = d
 fed room d (c ∷ cs) = fed room (fedByte room d c) cs
