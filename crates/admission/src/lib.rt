@@ -1,4 +1,6 @@
 // Flows that come to a live site and go (01: the desk).
+#![tactic(auto)]
+
 ghost use Rattle.std.specs.Prelude.{◌≡◌};
 ghost use Rattle.rulings.specs.Outcome.{settled, ruling};
 ghost use Rattle.counters.specs.Blocks.{cleared};

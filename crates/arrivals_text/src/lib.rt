@@ -1,4 +1,6 @@
 // The words N=K of a slot's line: K packets of flow N.
+#![tactic(auto)]
+
 ghost use Rattle.std.specs.Prelude.{◌≡◌, length, drop};
 ghost use Rattle.line_words.specs.Words.{words_of};
 ghost use Rattle.arrivals_text.specs.Counts.{arrivals_of};
@@ -7,7 +9,7 @@ ghost use Rattle.arrivals_text.specs.Inner.{taken_of};
 use line_words::{blank, find, next_word, read_number};
 
 // The packets that words give, by flow number; 64 zeros where one of the words gives none.
-#[derive(Drop)]
+#[derive(Clone, Copy)]
 pub struct Arrivals {
     pub given: bool,
     pub counts: [u16; 64],

@@ -1,4 +1,6 @@
 // Turns the typed plan on standard input into plan bytes on standard output, or tells its first wrong line on standard error.
+#![tactic(auto)]
+
 use typed_plan::Assembled;
 
 fn put_node_fault(out: &mut [u8], at: usize, place: u8) -> usize {

@@ -1,4 +1,6 @@
 // Rules 1 to 4 of the slot rule: the period that a base gives a gap, and the largest base that fits. What other crates call takes any numbers and lists.
+#![tactic(auto)]
+
 ghost use Rattle.std.specs.Prelude.{◌≡◌, ◌^◌, ◌≤◌, ◌/◌, length};
 ghost use Rattle.lists.specs.Lists.{smallest, largest};
 ghost use Rattle.slot_rule.specs.Rule.{exponent, period, sum, limit, base};
@@ -21,7 +23,7 @@ pub fn first_bad(gaps: &[u16]) -> usize
 }
 
 // A gap's period, which is the base times this power of the factor.
-#[derive(Drop)]
+#[derive(Clone, Copy)]
 struct Rise {
     period: u16,
     power: u16,
@@ -60,7 +62,7 @@ pub fn period_of(gap: u16, base: u16, factor: u16) -> u16
 }
 
 // One pass for both: rule 1 bounds the bases by the smallest gap, and the largest has the limit of rule 3 for its period.
-#[derive(Drop)]
+#[derive(Clone, Copy)]
 struct Span {
     low: u16,
     high: u16,
@@ -87,7 +89,7 @@ fn span_of(gaps: &[u16]) -> Span
 }
 
 // Rule 3 in whole numbers: the sum, and what it may come to.
-#[derive(Drop)]
+#[derive(Clone, Copy)]
 struct Figures {
     sum: u32,
     limit: u32,

@@ -1,4 +1,6 @@
 // The periods on a route: G of a flow, and whether it is above its deadline. 02, U2: sums go by the periods.
+#![tactic(auto)]
+
 ghost use Rattle.std.specs.Prelude.{◌≡◌};
 ghost use Rattle.tree.specs.Tree.{route};
 ghost use Rattle.reservations.specs.Reservations.{along, delay_bound};

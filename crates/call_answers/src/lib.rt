@@ -1,4 +1,6 @@
 // What is shown of a site and its counters while calls are made on them.
+#![tactic(auto)]
+
 ghost use Rattle.std.specs.Prelude.{◌≡◌};
 ghost use Rattle.text.specs.Put.{puts};
 ghost use Rattle.sender.specs.Sender.{found};

@@ -1,4 +1,6 @@
 // What a line of a planner asks for.
+#![tactic(auto)]
+
 ghost use Rattle.std.specs.Prelude.{◌≡◌, eqb, get_or, drop};
 ghost use Rattle.line_words.specs.Words.{words_of};
 ghost use Rattle.call_text.specs.Lines.{alone, slot_line, asked_of};
@@ -9,7 +11,7 @@ use request_text::{Call, Line, read_request};
 use slices::same;
 
 // What a line asks for, and the arrivals of a slot by flow number: 64 zeros for anything else.
-#[derive(Drop)]
+#[derive(Clone, Copy)]
 pub struct Asked {
     pub line: Line,
     pub arrivals: [u16; 64],

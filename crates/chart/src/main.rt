@@ -1,4 +1,6 @@
 // Draws the plan on standard input as a picture (SVG): whose slots they are under each parent, how full each link is, and the flows.
+#![tactic(auto)]
+
 mod flows;
 mod page;
 mod panels;

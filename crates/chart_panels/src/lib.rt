@@ -1,4 +1,6 @@
 // A panel for each parent with children, as text but for its rows: its title, its ground, the edges of its slots; and how much room the panels take.
+#![tactic(auto)]
+
 mod panels;
 mod size;
 

@@ -1,4 +1,6 @@
 // The rows of a panel as text: one for each child, one for the idle slots, and the numbers of the slots.
+#![tactic(auto)]
+
 mod rows;
 mod scale;
 

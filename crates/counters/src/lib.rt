@@ -1,4 +1,6 @@
 // The counters of a site's flows: nine cells for each flow number.
+#![tactic(auto)]
+
 ghost use Rattle.std.specs.Prelude.{◌≡◌, length};
 ghost use Rattle.counters.specs.Blocks.{zeros, cleared};
 

@@ -1,4 +1,6 @@
 // The checks of a flow that is to come to a live site and of a number that is to go, without 1 and 14 (01: the desk).
+#![tactic(auto)]
+
 ghost use Rattle.std.specs.Prelude.{◌≡◌};
 ghost use Rattle.rulings.specs.Outcome.{ruling};
 ghost use Rattle.site.specs.declared.Site.{Site};

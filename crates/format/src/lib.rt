@@ -1,4 +1,6 @@
 // How commands stand in bytes: their sizes, and numbers of 16 bits with the low byte first. The reader and the writers go by it.
+#![tactic(auto)]
+
 ghost use Rattle.std.specs.Prelude.{◌≡◌, ◌+◌, ◌*◌, ◌/◌, ◌%◌};
 ghost use Rattle.format.specs.Commands.{size_of, schedule_size};
 

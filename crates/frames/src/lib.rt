@@ -1,4 +1,6 @@
 // The frame of a parent, and which slots of it are whose or idle, as the marks of a picture.
+#![tactic(auto)]
+
 ghost use Rattle.std.specs.Prelude.{◌≡◌, max};
 ghost use Rattle.text.specs.Put.{puts};
 ghost use Rattle.slot_rule.specs.Rule.{sends};

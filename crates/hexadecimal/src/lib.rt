@@ -1,4 +1,6 @@
 // Bytes put into a borrowed space as hexadecimal digits.
+#![tactic(auto)]
+
 ghost use Rattle.std.specs.Prelude.{◌≡◌, ◌<◌};
 ghost use Rattle.slices.specs.Put.{put as put·};
 ghost use Rattle.text.specs.Put.{puts};

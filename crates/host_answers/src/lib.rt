@@ -1,4 +1,6 @@
 // Answers of 64 bits, in which a host is told what a call comes to.
+#![tactic(auto)]
+
 ghost use Rattle.std.specs.Prelude.{◌≡◌, ◌+◌, ◌*◌};
 ghost use Rattle.rulings.specs.Outcome.{accepted, refused, ruling};
 ghost use Rattle.pinwheel.specs.Answers.{outcome};

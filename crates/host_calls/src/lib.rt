@@ -1,4 +1,6 @@
 // The calls of a host that read a plan and change none: its sizes, its schedule, the rehearsal, who sends, and the bound of a flow.
+#![tactic(auto)]
+
 ghost use Rattle.std.specs.Prelude.{◌≡◌};
 ghost use Rattle.host_answers.specs.Answers.{told};
 ghost use Rattle.host_calls.specs.Calls.{plan_read_from, schedule_from, start_from, slot_from, sender_from, bound_from};

@@ -1,4 +1,6 @@
 // Changes of a live site that a host keeps as plan bytes: a flow is admitted or released, and the plan of the changed site is written.
+#![tactic(auto)]
+
 ghost use Rattle.std.specs.Prelude.{◌≡◌, ◌≤◌};
 ghost use Rattle.site.specs.declared.Site.{Site};
 ghost use Rattle.admission.specs.Calls.{admit_of, release_of};

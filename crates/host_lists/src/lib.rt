@@ -1,4 +1,6 @@
 // Schedules and the slot rule as lists that a host lends: a schedule file read to lists and written from them, and the slot rule alone.
+#![tactic(auto)]
+
 ghost use Rattle.std.specs.Prelude.{◌≡◌, length};
 ghost use Rattle.slot_rule.specs.Assign.{assigned};
 ghost use Rattle.host_answers.specs.Answers.{told};

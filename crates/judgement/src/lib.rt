@@ -1,4 +1,6 @@
 // The judgement of a site's nodes and flows by 11, 12 and 13.
+#![tactic(auto)]
+
 ghost use Rattle.std.specs.Prelude.{◌≡◌};
 ghost use Rattle.rulings.specs.Outcome.{refused, ruling};
 ghost use Rattle.site.specs.declared.Site.{Site};
@@ -10,7 +12,7 @@ use rulings::Verdict;
 use site::Site;
 
 // The verdict of a judgement, a reading or a change, and the site that it gives.
-#[derive(Drop)]
+#[derive(Clone, Copy)]
 pub struct Judged {
     pub verdict: Verdict,
     pub site: Site,

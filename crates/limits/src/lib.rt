@@ -1,11 +1,13 @@
 // The limits of nodes and flows. Nothing here knows plan bytes.
+#![tactic(auto)]
+
 ghost use Rattle.std.specs.Prelude.{◌≡◌};
 ghost use Rattle.limits.specs.Limits.{node_limits, flow_limits};
 
 use site::Flow;
 
 // The operands of a NODE.
-#[derive(Drop)]
+#[derive(Clone, Copy)]
 pub struct Node {
     pub parent: u8,
     pub capacity: u16,

@@ -1,4 +1,6 @@
 // One line of a rehearsal carried out: the call that it makes or the question that it asks, and the text of its answer.
+#![tactic(auto)]
+
 ghost use Rattle.std.specs.Prelude.{◌≡◌, [], ◌∷◌};
 ghost use Rattle.rulings.specs.Outcome.{ruling};
 ghost use Rattle.moves.specs.Hops.{own};
@@ -13,7 +15,7 @@ use request_text::{Call, Line, Question};
 use site::Site;
 
 // The site after a line, and how many bytes of the space are taken by its answer and those before it.
-#[derive(Drop)]
+#[derive(Clone, Copy)]
 pub struct Answered {
     pub site: Site,
     pub filled: usize,

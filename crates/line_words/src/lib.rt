@@ -1,25 +1,27 @@
 // Words of a line, and the decimal numbers among them.
+#![tactic(auto)]
+
 ghost use Rattle.std.specs.Prelude.{◌≤◌, ◌≡◌, cond, length, drop};
 ghost use Rattle.text.specs.Decimal.{value_of, is_number};
 ghost use Rattle.line_words.specs.Parts.{is, Reaches};
 ghost use Rattle.line_words.specs.Words.{is_blank, is_letter, words_of, none, operand_of, operand_at, NextWord};
 
 // A word from the index of its first byte to the index behind its last. Where there is none, both are the line's length.
-#[derive(Drop)]
+#[derive(Clone, Copy)]
 pub struct Word {
     pub start: usize,
     pub end: usize,
 }
 
 // Where no number is given, `value` is 0.
-#[derive(Drop)]
+#[derive(Clone, Copy)]
 pub struct Number {
     pub given: bool,
     pub value: u32,
 }
 
 // A number that is a word of a line, if there is one, and the index behind that word.
-#[derive(Drop)]
+#[derive(Clone, Copy)]
 pub struct Operand {
     pub given: bool,
     pub value: u32,

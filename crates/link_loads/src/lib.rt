@@ -1,4 +1,6 @@
 // What live flows keep on the links of their routes, and the first link that is full. 02, U2: widths go by the periods.
+#![tactic(auto)]
+
 ghost use Rattle.std.specs.Prelude.{◌≡◌, ℕ, ◌+◌, ◌≤◌, length, get_or, replicate};
 ghost use Rattle.tree.specs.Tree.{route};
 ghost use Rattle.site.specs.declared.Site.{Site};
@@ -87,7 +89,7 @@ pub fn loads(site: Site) -> [u32; 63]
 
 // 01, 12: the index of the first link with widths above its capacity, or the number of links.
 // 01, 13: the first live flow with periods on its route that sum to more than its deadline, or 64.
-#[derive(Drop)]
+#[derive(Clone, Copy)]
 pub struct Faults {
     pub over: usize,
     pub late: usize,

@@ -1,5 +1,7 @@
 // Prints the plan on standard input as lines that `assemble` turns into the same bytes, or its refusal.
 // The first 1,024 bytes of an input settle every answer: the law `read_first` of crate `plan_reader`.
+#![tactic(auto)]
+
 fn main() {
     if os::arg_count() != 1 {
         io::write_all(2, b"usage: listing < PLAN > TEXT\n");

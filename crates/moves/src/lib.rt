@@ -1,4 +1,6 @@
 // What the links of a site move in one slot.
+#![tactic(auto)]
+
 ghost use Rattle.std.specs.Prelude.{◌≡◌, ℕ, min};
 ghost use Rattle.rulings.specs.Outcome.{ruling};
 ghost use Rattle.site.specs.declared.Site.{Site};

@@ -1,4 +1,6 @@
 // The slot rule: from the gaps wanted by the children of one parent it assigns their periods and offsets. It knows no plans, bytes or flows.
+#![tactic(auto)]
+
 mod offsets;
 mod periods;
 
@@ -8,7 +10,7 @@ ghost use Rattle.pinwheel.specs.Answers.{outcome};
 ghost use Rattle.slot_rule.specs.Rule.{sends};
 
 // The base, which a plan's report prints, or the number and the place of a refusal.
-#[derive(Drop)]
+#[derive(Clone, Copy)]
 pub enum Answer {
     Base(u16),
     Refused(u8, usize),

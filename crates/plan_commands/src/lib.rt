@@ -1,4 +1,6 @@
 // The commands of a plan, each by itself: its operands and its checks. What bytes come to as a whole is for the reader.
+#![tactic(auto)]
+
 ghost use Rattle.std.specs.Prelude.{◌≡◌, ◌-◌};
 ghost use Rattle.plan_commands.specs.Commands.{Draft, node_fault};
 ghost use Rattle.plan_commands.specs.Inner.{Known, more_behind, node_within, flow_within, fault_at};

@@ -1,4 +1,6 @@
 // A plan as lines that can be typed again, put into a borrowed slice.
+#![tactic(auto)]
+
 ghost use Rattle.std.specs.Prelude.{◌≡◌};
 ghost use Rattle.text.specs.Put.{puts};
 ghost use Rattle.plan_listing.specs.Listing.{listing_lines, listing_of, node_text, node_typed, typed_flow, flow_typed_if, site_typed};

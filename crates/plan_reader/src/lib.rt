@@ -1,4 +1,6 @@
 // Reading a plan: one command after the other, then the judgement of the whole.
+#![tactic(auto)]
+
 ghost use Rattle.std.specs.Prelude.{◌≡◌};
 ghost use Rattle.rulings.specs.Outcome.{ruling, settled};
 ghost use Rattle.reservations.specs.Reservations.{loads_of};

@@ -1,4 +1,6 @@
 // Text on standard output. No contract can say what is written there: each function answers how many bytes it handed over.
+#![tactic(auto)]
+
 ghost use Rattle.std.specs.Prelude.{◌≡◌, length};
 ghost use Rattle.slices.specs.Written.{writing};
 ghost use Rattle.site_report.specs.Report.{report_of};

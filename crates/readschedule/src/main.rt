@@ -1,5 +1,7 @@
 // Prints when each link of the schedule file on standard input sends, or its refusal.
 // No input can pass more than 63 LINKs and END, so its first 1,024 bytes settle every answer: this is the law `schedule_first` of crate `schedule_reader`.
+#![tactic(auto)]
+
 fn main() {
     if os::arg_count() != 1 {
         io::write_all(2, b"usage: readschedule < SCHEDULE\n");

@@ -1,4 +1,6 @@
 // What a planner types, taken up byte by byte: each line that ends is carried out on the site and the counters as the one before it left them.
+#![tactic(auto)]
+
 ghost use Rattle.std.specs.Prelude.{ℕ, ◌+◌, ◌≡◌, List, [], ◌∷◌, ◌++◌, leb, length};
 ghost use Rattle.line_answers.specs.Steps.{answered_to, CarriedAs};
 ghost use Rattle.rehearsal.specs.Desk.{asked_in, HoldsLine, AllTaken};
@@ -7,14 +9,14 @@ use line_answers::{Answered, answer_line};
 use site::Site;
 
 // The site as it is now, and how many bytes are kept of the line that has not ended: one more than its space has where it is too long.
-#[derive(Drop)]
+#[derive(Clone, Copy)]
 pub struct Rehearsal {
     pub site: Site,
     pub kept: usize,
 }
 
 // The same after some bytes, with how many of them were taken up and how many bytes their answers have.
-#[derive(Drop)]
+#[derive(Clone, Copy)]
 pub struct TakenUp {
     pub site: Site,
     pub kept: usize,

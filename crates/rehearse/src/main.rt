@@ -1,5 +1,7 @@
 // A planner tries a site by typing. The one argument names a file with the plan; each line of standard input asks for a call, or for something of
 // the site as it is now, and gets its answer. What lines come to is in crate `rehearsal`; here they are read, handed on and answered.
+#![tactic(auto)]
+
 ghost use Rattle.std.specs.Prelude.{ℕ, ◌≡◌, List};
 ghost use Rattle.rehearsal.specs.Desk.{begun, desk, fed, GoesOn, SomeTyped};
 

@@ -1,4 +1,6 @@
 // What printed texts have in common: refusals, verdicts and a link's slots, and a text handed to the slice of the caller.
+#![tactic(auto)]
+
 ghost use Rattle.std.specs.Prelude.{◌≡◌, take};
 ghost use Rattle.text.specs.Put.{puts};
 ghost use Rattle.rulings.specs.Outcome.{ruling};

@@ -1,4 +1,6 @@
 // What a planner's line asks for by its name and the numbers behind it: every line but that of a slot.
+#![tactic(auto)]
+
 ghost use Rattle.std.specs.Prelude.{◌≡◌, ◌&&◌, drop};
 ghost use Rattle.line_words.specs.Words.{words_of, none};
 ghost use Rattle.request_text.specs.Requests.{lone_of, admit_line, release_line, sender_line, flow_question, other_of};
@@ -8,7 +10,7 @@ use site::Flow;
 use slices::same;
 
 // A call that may change the site or the counters, with its operands; the arrivals of a slot stand beside it.
-#[derive(Drop)]
+#[derive(Clone, Copy)]
 pub enum Call {
     Start,
     Slot(u32),
@@ -17,7 +19,7 @@ pub enum Call {
 }
 
 // What can be shown of the site and the counters as they are.
-#[derive(Drop)]
+#[derive(Clone, Copy)]
 pub enum Question {
     Sender(u8, u32),
     Cells(u8),
@@ -29,7 +31,7 @@ pub enum Question {
 }
 
 // A line that is not passed over makes a call, asks a question or is malformed.
-#[derive(Drop)]
+#[derive(Clone, Copy)]
 pub enum Line {
     PassedOver,
     Makes(Call),

@@ -1,4 +1,6 @@
 // A route as text, link by link from its entry node up.
+#![tactic(auto)]
+
 ghost use Rattle.std.specs.Prelude.{◌≡◌};
 ghost use Rattle.text.specs.Put.{puts};
 ghost use Rattle.text.specs.Listed.{each};

@@ -1,11 +1,13 @@
 // Schedules by value, and check 14 of one that is handed in.
+#![tactic(auto)]
+
 ghost use Rattle.std.specs.Prelude.{◌≡◌, ◌-◌, ◌≤◌, length};
 ghost use Rattle.schedule_check.specs.Schedules.{of_lists, without_links, bad_slots};
 ghost use Rattle.schedule_check.specs.Check.{in_use, bad_at, used_at, schedule_passes};
 ghost use Rattle.lists.specs.Search.{any};
 
 // How many links there are, and when each sends: link n at index n - 1. Entries past the last link are 0.
-#[derive(Drop)]
+#[derive(Clone, Copy)]
 pub struct Schedule {
     pub links: u8,
     pub offsets: [u16; 63],

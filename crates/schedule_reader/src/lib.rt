@@ -1,4 +1,6 @@
 // The reading of schedule files.
+#![tactic(auto)]
+
 ghost use Rattle.std.specs.Prelude.{◌≡◌, ◌+◌, ◌<◌, length};
 ghost use Rattle.rulings.specs.Outcome.{refused, ruling, given};
 ghost use Rattle.format.specs.Reading.{ended};
@@ -9,7 +11,7 @@ use rulings::Verdict;
 use schedule_check::{Schedule, bad_slots, without_links};
 
 // The operands of a LINK.
-#[derive(Drop)]
+#[derive(Clone, Copy)]
 pub struct Link {
     pub node: u8,
     pub offset: u16,
@@ -17,14 +19,14 @@ pub struct Link {
 }
 
 // The verdict of a reading, and the schedule that it gives.
-#[derive(Drop)]
+#[derive(Clone, Copy)]
 pub struct Reading {
     pub verdict: Verdict,
     pub schedule: Schedule,
 }
 
 // The same by lists that are lent: how many links were read.
-#[derive(Drop)]
+#[derive(Clone, Copy)]
 pub struct Listing {
     pub verdict: Verdict,
     pub links: u8,

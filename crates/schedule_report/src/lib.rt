@@ -1,4 +1,6 @@
 // What `readschedule` prints of schedule bytes, put into a borrowed slice.
+#![tactic(auto)]
+
 ghost use Rattle.std.specs.Prelude.{◌≡◌, ◌+◌, ◌<◌, ◌∷◌};
 ghost use Rattle.text.specs.Put.{puts};
 ghost use Rattle.schedule_report.specs.Report.{schedule_lines, schedule_report_of, slots_line, schedule_text};

@@ -1,4 +1,6 @@
 // Which child of a parent sends in a slot.
+#![tactic(auto)]
+
 ghost use Rattle.std.specs.Prelude.{◌≡◌};
 ghost use Rattle.site.specs.declared.Site.{Site};
 ghost use Rattle.site.specs.Sites.{of_lists};
@@ -8,7 +10,7 @@ use pinwheel::sends_in;
 use site::Site;
 
 // The child that sends or 0, or the number and the place of a refusal.
-#[derive(Drop)]
+#[derive(Clone, Copy)]
 pub enum Lookup {
     Child(u8),
     Refused(u8, usize),

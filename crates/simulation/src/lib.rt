@@ -1,4 +1,6 @@
 // The rehearsal of 01 slot by slot: its start, and one slot of all flows with check 14.
+#![tactic(auto)]
+
 ghost use Rattle.std.specs.Prelude.{◌≡◌};
 ghost use Rattle.rulings.specs.Outcome.{ruling};
 ghost use Rattle.moves.specs.Hops.{own};

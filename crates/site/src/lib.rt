@@ -1,11 +1,13 @@
 // A site by value, with its flows.
+#![tactic(auto)]
+
 ghost use Rattle.std.specs.Prelude.{◌≡◌};
 ghost use Rattle.site.specs.declared.Site.{Site};
 ghost use Rattle.site.specs.Sites.{flow_count, empty_site, used, live, with_states, with_flow, without_flow};
 
 // One value for one plan: node n's entries are at index n - 1, a flow's at its number, and whatever is not in use is 0.
 // A flow's state is 0 for a number not in use and 1 for a live flow.
-#[derive(Drop)]
+#[derive(Clone, Copy)]
 pub struct Site {
     pub links: u8,
     pub parents: [u8; 63],
@@ -20,7 +22,7 @@ pub struct Site {
 }
 
 // The operands of a FLOW.
-#[derive(Drop)]
+#[derive(Clone, Copy)]
 pub struct Flow {
     pub number: u8,
     pub entry: u8,

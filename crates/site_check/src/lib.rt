@@ -1,4 +1,6 @@
 // Check 14: whether a site is one that a reading can give.
+#![tactic(auto)]
+
 ghost use Rattle.std.specs.Prelude.{◌≡◌, ◌<◌};
 ghost use Rattle.site_check.specs.Check.{ill_node, ill_flow, first_ill_node, first_ill_flow, stands, passes_of, call_fault};
 ghost use Rattle.lists.specs.Lists.{same};

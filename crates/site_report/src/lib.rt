@@ -1,4 +1,6 @@
 // What `slotplan` prints of plan bytes: the lines of a site's links and live flows and their numbers, put into a borrowed slice.
+#![tactic(auto)]
+
 ghost use Rattle.std.specs.Prelude.{◌≡◌, ◌+◌, ◌<◌};
 ghost use Rattle.text.specs.Put.{puts};
 ghost use Rattle.site_report.specs.Report.{site_lines, report_lines, report_of, link_text, link_line, flow_text, flow_line_if, counts_line};

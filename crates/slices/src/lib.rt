@@ -1,4 +1,6 @@
 // Bytes put into a borrowed slice, two slices compared, and what a writer answers.
+#![tactic(auto)]
+
 ghost use Rattle.std.specs.Prelude.{◌≡◌, ◌+◌, ◌≤◌, ◌++◌, length, take, drop};
 ghost use Rattle.slices.specs.Put.{put as put·};
 ghost use Rattle.lists.specs.Lists.{same as same·};
@@ -49,7 +51,7 @@ pub fn same(word: &[u8], name: &[u8]) -> bool
 }
 
 // The number of bytes written, or the number and the place of a refusal.
-#[derive(Drop)]
+#[derive(Clone, Copy)]
 pub enum Written {
     Length(usize),
     Refused(u8, usize),

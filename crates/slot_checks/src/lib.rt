@@ -1,4 +1,6 @@
 // Checks 19 and 20: what a slot's arrivals are judged by.
+#![tactic(auto)]
+
 ghost use Rattle.std.specs.Prelude.{◌≤◌, ◌≡◌, length};
 ghost use Rattle.lists.specs.Lists.{total};
 ghost use Rattle.site.specs.declared.Site.{Site};

@@ -1,5 +1,7 @@
 // Prints the schedule and the flows of the plan on standard input, or its refusal.
 // No input can pass more than 63 NODEs, 64 FLOWs and END, so its first 1,024 bytes settle every answer: this is the law `read_first` of crate `plan_reader`.
+#![tactic(auto)]
+
 fn main() {
     if os::arg_count() != 1 {
         io::write_all(2, b"usage: slotplan < PLAN\n");

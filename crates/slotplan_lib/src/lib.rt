@@ -1,5 +1,7 @@
 // The functions for hosts in C and Rust (include/slotplan_lib.h). The state of a site is its plan bytes; each answer is one number of 64 bits. The eleven are one
 // subject, the names that a host links, and each is one call, so that what a call does is said and proved once, in the crate of its subject.
+#![tactic(auto)]
+
 ghost use Rattle.std.specs.Prelude.{◌≡◌};
 ghost use Rattle.slot_rule.specs.Assign.{assigned};
 ghost use Rattle.host_answers.specs.Answers.{told};

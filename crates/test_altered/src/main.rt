@@ -1,6 +1,8 @@
 // Check 14 and the writers, on sites with entries changed and on slices that may be too short.
 // A line that begins with `P` gives a plan in hexadecimal. Each other line gives the slice's length and then changes of the site that this plan
 // reads to, each a field, an index and a value. A line that begins with `#` is printed as it stands.
+#![tactic(auto)]
+
 use site::Site;
 
 fn put_check(out: &mut [u8], site: Site) -> usize {

@@ -2,12 +2,14 @@
 // A line that begins with `P` gives the plan of a new site, one with `X` changes of its entries, one with `C` the counters' value, and one with `K` the
 // value of a single counter. `A`, `R`, `L`, `T` and `S` call an operation with the operands that follow. A line that begins with `#` is printed as it
 // stands.
+#![tactic(auto)]
+
 use judgement::Judged;
 use rulings::Verdict;
 use site::{Flow, Site};
 
 // A site needs 576 counters: with one more, a list that is too long can be lent too.
-#[derive(Drop)]
+#[derive(Clone, Copy)]
 struct Live {
     site: Site,
     counters: [u32; 577],

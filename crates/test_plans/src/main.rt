@@ -1,6 +1,7 @@
 // What `slotplan` prints of each plan file that an argument names.
 // `figures.plan` has figures that differ from each other and take two bytes; the flows of `bounds.plan` have bounds below the wanted gaps of their routes;
 // `overlong.plan` is longer than the bytes that are read of it; `wired.plan` is a plaza without radio, END alone.
+#![tactic(auto)]
 
 // On standard output, so that a plan that is missing is a difference from what is expected.
 fn tell_unopened(path: &[u8]) {

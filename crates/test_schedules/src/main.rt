@@ -1,6 +1,8 @@
 // Schedules read back, and handed to the writer with entries changed.
 // A line that begins with `W` gives the length of a slice and then changes of the schedule that the last file read to, each a field, an index and a value: field 0
 // is the number of links, 1 an offset, 2 a period. A line that begins with `#` is printed as it stands. Any other line is a schedule file in hexadecimal.
+#![tactic(auto)]
+
 use rulings::Verdict;
 use schedule_check::Schedule;
 use schedule_reader::Reading;

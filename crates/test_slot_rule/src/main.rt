@@ -1,5 +1,7 @@
 // Runs the slot rule on lists from standard input: on each line the lengths of the lists of offsets and periods, and then the gaps.
 // A line that begins with `#` is printed as it stands.
+#![tactic(auto)]
+
 ghost use Rattle.std.specs.Prelude.{◌+◌, ◌≤◌, ◌≡◌, length};
 
 use pinwheel::Answer;

@@ -1,5 +1,7 @@
 // Reads plans from standard input, each on a line in hexadecimal, and prints for each the refusal, or how its plan and its schedule are written.
 // A line that begins with `#` is printed as it stands.
+#![tactic(auto)]
+
 use rulings::Verdict;
 use site::Site;
 use slices::Written;

@@ -1,4 +1,6 @@
 // What a call changed in a site and its counters, for the test programs.
+#![tactic(auto)]
+
 ghost use Rattle.std.specs.Prelude.{◌≡◌, [], ◌++◌, ◌≤◌, ◌<◌, cond, eqb, get_or};
 ghost use Rattle.lists.specs.Lists.{joined};
 ghost use Rattle.text.specs.Put.{puts};

@@ -1,4 +1,6 @@
 // Sites that lines of text give and change, for the test programs.
+#![tactic(auto)]
+
 ghost use Rattle.std.specs.Prelude.{◌≡◌, ◌≤◌, ◌<◌};
 ghost use Rattle.testlib_sites.specs.Altered.{largest_of as largest·, with_entry, changed as changed·, altered_from, site_given};
 

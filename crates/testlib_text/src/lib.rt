@@ -1,4 +1,6 @@
 // What the test programs share: lines of text with plans in hexadecimal or numbers in decimal, and what they print.
+#![tactic(auto)]
+
 ghost use Rattle.std.specs.Prelude.{◌%◌, ◌-◌, ◌*◌, ◌+◌, ◌<◌, ◌≡◌, take};
 ghost use Rattle.text.specs.Decimal.{is_digit, value_of};
 ghost use Rattle.text.specs.Put.{puts};
@@ -157,7 +159,7 @@ fn value_of(digits: &[u8]) -> usize
 }
 
 // A decimal number of a line and the index behind its last digit. Where there is none, `found` is false and the index is the line's length.
-#[derive(Drop)]
+#[derive(Clone, Copy)]
 pub struct Number {
     pub found: bool,
     pub value: usize,
@@ -186,7 +188,7 @@ pub fn next_number(line: &[u8], start: usize) -> Number
 }
 
 // A change of one entry that a line asks for: field, index and value, and the index of the line behind them. `found` is false where one of the three is missing.
-#[derive(Drop)]
+#[derive(Clone, Copy)]
 pub struct Change {
     pub found: bool,
     pub field: usize,

@@ -1,4 +1,6 @@
 // Text put into a borrowed space piece by piece: words and decimal numbers.
+#![tactic(auto)]
+
 ghost use Rattle.std.specs.Prelude.{◌≡◌, [], ◌∷◌};
 ghost use Rattle.slices.specs.Put.{put as put·};
 ghost use Rattle.text.specs.Put.{puts};

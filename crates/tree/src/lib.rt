@@ -1,4 +1,6 @@
 // The tree of a site: the parent of a node, the entry of its link, and its depth. It knows lists of parents and no site.
+#![tactic(auto)]
+
 ghost use Rattle.std.specs.Prelude.{◌≡◌};
 ghost use Rattle.tree.specs.Tree.{of_link, up, depth_of};
 

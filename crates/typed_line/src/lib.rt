@@ -1,4 +1,6 @@
 // One line of a typed plan, `node PARENT CAPACITY GAP` or `flow NUMBER NODE RATE DEADLINE`. No rule of 01 is judged but that each number fits its operand.
+#![tactic(auto)]
+
 ghost use Rattle.std.specs.Prelude.{◌≡◌, drop};
 ghost use Rattle.line_words.specs.Words.{words_of};
 ghost use Rattle.typed_line.specs.Lines.{node_said, flow_said, command_of, typed_line};
@@ -82,7 +84,7 @@ pub fn read_line(line: &[u8]) -> Typed
 }
 
 // What a line says: a command with its operands; or that it is wrong, with its command, 0 for none, and the place of its first wrong word.
-#[derive(Drop)]
+#[derive(Clone, Copy)]
 pub enum Typed {
     Nothing,
     Node(u8, u16, u16),

@@ -1,5 +1,7 @@
 // Plans typed as text, `node PARENT CAPACITY GAP` and `flow NUMBER NODE RATE DEADLINE` on a line each, turned into plan bytes. No rule of 01 is judged but
 // that each number fits its operand.
+#![tactic(auto)]
+
 mod plans;
 
 ghost use Rattle.std.specs.Prelude.{◌≡◌};
@@ -9,7 +11,7 @@ use plans::{check, put_plan};
 
 // The number of bytes stored; the number of a wrong line, its command and the place of its first wrong word; a slice without room; or a text that is too
 // long.
-#[derive(Drop)]
+#[derive(Clone, Copy)]
 pub enum Assembled {
     Length(usize),
     BadLine(usize, u8, u8),
