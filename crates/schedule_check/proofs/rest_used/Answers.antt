@@ -1,5 +1,6 @@
 use Prim.Native.Nat.{◌-◌}
 use mathlib.Core.Path.{refl, sym, ◌∙◌}
+use mathlib.Core.Logic.{inl, inr}
 use native.Mathlib.Omega.{arith}
 use Rattle.schedule_check.proofs.Laws.Check.{seen_hit, seen_miss, seen_end}
 use Rattle.schedule_check.proofs.rest_used.Goals as goal
@@ -9,11 +10,9 @@ pub loop-i-init : goal.loop-i-init
 loop-i-init c = record { are = refl }
 
 pub loop-i-preserved : goal.loop-i-preserved
-loop-i-preserved c = let asked = c.before in
-    let turn = c.before.before.before.before.before in
-    elim c.if-in_use.branch [
-      | then-in_use w ↦ rw w.used-is (seen_hit _ _ _ _ _ turn.loop.invariant (omega arith) (sym asked.in_use.ensures ∙ w.if-in_use.true))
-      | else-in_use w ↦ rw w.used-is (seen_miss _ _ _ _ _ turn.loop.invariant (omega arith) (sym asked.in_use.ensures ∙ w.if-in_use.false))
+loop-i-preserved c = elim c.if-in_use.branch [
+      | then-in_use w ↦ rw w.used-is (seen_hit _ _ _ _ _ c.loop-i.invariant (omega arith) (sym c.in_use.ensures ∙ w.if-in_use.true))
+      | else-in_use w ↦ rw w.used-is (seen_miss _ _ _ _ _ c.loop-i.invariant (omega arith) (sym c.in_use.ensures ∙ w.if-in_use.false))
     ]
 
 pub returns : goal.returns

@@ -1,6 +1,7 @@
 use Prim.Native.Nat.{◌-◌}
 use mathlib.Core.Path.{◌≡◌}
 use mathlib.Core.Bool.{or-true}
+use mathlib.Core.Logic.{inl, inr}
 use native.Mathlib.Omega.{arith}
 use Rattle.schedule_check.proofs.Laws.Check.{seen_hit, seen_miss, seen_end}
 use Rattle.schedule_check.proofs.Laws.Slots.{slots_many, slots_late, slots_well}
@@ -15,8 +16,8 @@ loop-i-preserved c = let turn = c.loop-i in
     elim c.if-link_period-gt1024.branch [
       | then-link_period-gt1024 w ↦ rw w.long-is (seen_hit _ _ _ _ _ turn.invariant (omega arith) (slots_many _ _ (omega arith)))
       | else-link_period-gt1024 w ↦ elim c.if-link_period-offsets.branch [
-        | then-link_period-offsets v ↦ rw (w.long-is, v.1, or-true turn.long) (seen_hit _ _ _ _ _ turn.invariant (omega arith) (slots_late _ _ (omega arith)))
-        | else-link_period-offsets v ↦ rw (w.long-is, v.1) (seen_miss _ _ _ _ _ turn.invariant (omega arith) (slots_well _ _ (omega arith) (omega arith)))
+        | then-link_period-offsets v ↦ rw (w.long-is, v.late-is, or-true turn.long) (seen_hit _ _ _ _ _ turn.invariant (omega arith) (slots_late _ _ (omega arith)))
+        | else-link_period-offsets v ↦ rw (w.long-is, v.late-is) (seen_miss _ _ _ _ _ turn.invariant (omega arith) (slots_well _ _ (omega arith) (omega arith)))
       ]
     ]
 
