@@ -34,7 +34,7 @@ returns-3 c =
     marks_link start.args.t3 start.args.node start.args.slots _ _ _ _
     (omega (arith, linked.if1.false))
     (omega (arith, within.if2.false))
-    period.value_of_lem.ensures offset.value-of2.ensures end.put-marks.ensures
+    period.value-of.ensures offset.value-of2.ensures end.put-marks.ensures
 
 pub put_link_marks_spec : {M : Type 1} → statement M
 put_link_marks_spec =

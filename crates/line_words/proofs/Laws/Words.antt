@@ -67,10 +67,10 @@ module _ (line : List ℕ) where
     | inr m ↦ m
   ]
 
-  word_at : (start end : ℕ) → start < length line → start < end → Reaches is_blank line start end
+  word_at_lem : (start end : ℕ) → start < length line → start < end → Reaches is_blank line start end
       → words_of (drop start line) ≡ take (end - start) (drop start line) ∷ words_of (drop end line)
   unfolding words_of nonempty
-  word_at start end l m w = elim (eq-or-lt_of_le {n = end} {m = length line} w.within) [
+  word_at_lem start end l m w = elim (eq-or-lt_of_le {n = end} {m = length line} w.within) [
     | inl q ↦ rw (parts_last is_blank line start end w (omega arith) (omega arith), first [], words_end end (omega arith))
     | inr n ↦ rw (parts_marked is_blank line start end w (omega arith) n, first (parts is_blank (drop (end + 1) line)), words_blank end n (w.marked n))
   ]
@@ -107,7 +107,7 @@ module _ (line : List ℕ) where
           onward = a.onward;
           ordered = omega arith;
           within = b.within;
-          words = words_from from start a ∙ word_at start end l m b ∙ rw (ne_eqb start end (λ q. absurd (omega arith)));
+          words = words_from from start a ∙ word_at_lem start end l m b ∙ rw (ne_eqb start end (λ q. absurd (omega arith)));
           last = λ e. absurd (omega (arith, m, e));
         }
   ]

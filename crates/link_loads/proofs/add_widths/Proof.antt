@@ -17,7 +17,7 @@ abbrev decreases-loop : tie.decreases-loop
 decreases-loop periods parents entry rate loads₀ sum₀ node₀ loads sum node = node
 
 width : (c : tie.After-value-of invariant-loop decreases-loop)
-    → c.before.before.before.before.before.before.before.args.rate * c.value_of_lem.result ≤ 16711425
+    → c.before.before.before.before.before.before.before.args.rate * c.value-of.result ≤ 16711425
 width c = width_le _ _ (omega arith) (omega arith)
 
 loop-holds : tie.Need-loop-init invariant-loop decreases-loop
@@ -84,8 +84,8 @@ loop-again : tie.Need-loop-preserved invariant-loop decreases-loop
 loop-again c =
     let walked = c.before.before.before.before.loop.invariant in
     let parent = c.before.before.before.parent_of.ensures in (
-      carrying_more _ _ _ _ _ _ _ _ walked.0 parent _ (omega arith) c.before.value_of_lem.ensures,
-      summing_more _ _ _ _ _ _ walked.1 parent _ (omega arith) c.before.value_of_lem.ensures (omega arith),
+      carrying_more _ _ _ _ _ _ _ _ walked.0 parent _ (omega arith) c.before.value-of.ensures,
+      summing_more _ _ _ _ _ _ walked.1 parent _ (omega arith) c.before.value-of.ensures (omega arith),
     )
 
 pub add_widths_spec : {M : Type 1} → statement M

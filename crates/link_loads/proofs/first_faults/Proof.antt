@@ -80,7 +80,7 @@ loop-again c =
       omega arith,
       λ s. let held = at.loop.invariant.2 s in (
         held.0,
-        held.1 ∙ first_miss _ _ _ (omega arith) (over_no _ _ _ _ c.before.value_of_lem.ensures (load_in _ _ held.0.sums _ (omega arith)) (omega arith)),
+        held.1 ∙ first_miss _ _ _ (omega arith) (over_no _ _ _ _ c.before.value-of.ensures (load_in _ _ held.0.sums _ (omega arith)) (omega arith)),
       ),
     )
 
@@ -93,7 +93,7 @@ returns-2 : tie.Need-returns-2 invariant-loop decreases-loop
 returns-2 c = λ s.
     let held = c.before.before.before.before.loop.invariant.2 s in
     record {
-      link = sym (held.1 ∙ first_hit _ _ _ (omega arith) (over_yes _ _ _ _ c.before.value_of_lem.ensures (load_in _ _ held.0.sums _ (omega arith)) (omega arith)));
+      link = sym (held.1 ∙ first_hit _ _ _ (omega arith) (over_yes _ _ _ _ c.before.value-of.ensures (load_in _ _ held.0.sums _ (omega arith)) (omega arith)));
       flow = held.0.flow;
       sums = held.0.sums;
     }

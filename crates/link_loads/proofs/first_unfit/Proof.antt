@@ -47,7 +47,7 @@ cast-width : tie.Need-overflow-cast-width invariant-loop decreases-loop
 cast-width c = search rules
 
 mul-width : tie.Need-overflow-mul-width invariant-loop decreases-loop
-mul-width c = omega (arith, width_le c.before.before.before.before.before.before.args.rate c.value_of_lem.result (omega arith) (omega arith))
+mul-width c = omega (arith, width_le c.before.before.before.before.before.before.args.rate c.value-of.result (omega arith) (omega arith))
 
 value-of-requires-2 : tie.Need-value-of-requires-2 invariant-loop decreases-loop
 value-of-requires-2 c κs = tt
@@ -66,7 +66,7 @@ returns-2 c =
     let called = c.before.before in
     let walked = called.before.before.before.before in
     let up = walked.before in
-    full_here _ _ _ _ _ _ _ up.parent_of.ensures (omega arith) _ _ _ called.value-of2.ensures refl called.before.before.value_of_lem.ensures (omega arith)
+    full_here _ _ _ _ _ _ _ up.parent_of.ensures (omega arith) _ _ _ called.value-of2.ensures refl called.before.before.value-of.ensures (omega arith)
     ∙ up.before.before.loop.invariant.1
 
 returns-3 : tie.Need-returns-3 invariant-loop decreases-loop
@@ -74,7 +74,7 @@ returns-3 c =
     let called = c.before.before.before in
     let walked = called.before.before.before.before in
     let up = walked.before in
-    full_here _ _ _ _ _ _ _ up.parent_of.ensures (omega arith) _ _ _ called.value-of2.ensures refl called.before.before.value_of_lem.ensures (omega arith)
+    full_here _ _ _ _ _ _ _ up.parent_of.ensures (omega arith) _ _ _ called.value-of2.ensures refl called.before.before.value-of.ensures (omega arith)
     ∙ up.before.before.loop.invariant.1
 
 loop-less : tie.Need-loop-smaller invariant-loop decreases-loop
@@ -86,7 +86,7 @@ loop-again c =
     let up = called.before.before.before.before.before in
     let at = up.before.before in (
       omega (arith, at.loop.invariant.0),
-      full_next _ _ _ _ _ _ _ up.parent_of.ensures (omega arith) _ _ _ called.value-of2.ensures refl called.before.before.value_of_lem.ensures
+      full_next _ _ _ _ _ _ _ up.parent_of.ensures (omega arith) _ _ _ called.value-of2.ensures refl called.before.before.value-of.ensures
           (omega arith)
           ∙ at.loop.invariant.1,
     )

@@ -75,7 +75,7 @@ cast-width c = search rules
 mul-width : tie.Need-overflow-mul-width invariant-loop decreases-loop
 mul-width c = omega (
   arith,
-  width_le c.before.before.before.before.before.before.before.before.before.before.args.rate c.value_of_lem.result
+  width_le c.before.before.before.before.before.before.before.before.before.before.args.rate c.value-of.result
       (omega arith) (omega arith),
 )
 
@@ -100,7 +100,7 @@ loop-less c = search rules
 loop-again : tie.Need-loop-preserved invariant-loop decreases-loop
 loop-again c = moving_more _ _ _ _ _ _ _ _ c.before.before.before.before.before.before.loop.invariant _ c.before.before.before.before.parent_of.ensures
     (search rules) c.before.before.before.if1.false _
-    (moved_in _ _ _ _ _ _ c.before.value_of_lem.ensures c.smaller.ensures)
+    (moved_in _ _ _ _ _ _ c.before.value-of.ensures c.smaller.ensures)
 
 same-length-2 : tie.Need-same-length-2 invariant-loop decreases-loop
 same-length-2 c = omega (arith, c.before.loop.invariant.nine, c.before.before.before.before.before.before.requires.nine)

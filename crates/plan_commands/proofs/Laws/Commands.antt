@@ -55,10 +55,10 @@ flow_number d f e = let w = (flow_good d.site.links d.next f).0 e in (omega (ari
 
 -- The operands of the command at index `at`.
 module _ (bytes : List ℕ) (at : ℕ) where
-  pub node_at : (p c g : ℕ) → p ≡ get_or bytes (at + 1) 0 → c ≡ get_or bytes (at + 2) 0 + 256 * get_or bytes (at + 3) 0
+  pub node_at_lem : (p c g : ℕ) → p ≡ get_or bytes (at + 1) 0 → c ≡ get_or bytes (at + 2) 0 + 256 * get_or bytes (at + 3) 0
       → g ≡ get_or bytes (at + 4) 0 + 256 * get_or bytes (at + 5) 0 → record { parent = p; capacity = c; gap = g } ≡ node_at bytes at
   unfolding node_at
-  node_at p c g ep ec eg =
+  node_at_lem p c g ep ec eg =
       rw (number_one bytes (at + 1), number_two bytes (at + 2) (at + 3) (omega arith), number_two bytes (at + 4) (at + 5) (omega arith))
       (λ i. record { parent = ep i; capacity = ec i; gap = eg i })
 

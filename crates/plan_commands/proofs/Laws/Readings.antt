@@ -13,7 +13,7 @@ use Rattle.format.proofs.Laws.Reading.{ended_alike, Agreeing, Settled, read_firs
 use Rattle.limits.specs.declared.Node.{Node}
 use Rattle.plan_commands.specs.Commands.{Draft, node_at, flow_at, node_fault, flow_fault, later_fault, with_node, node_added, flow_added, after, plans, fault, blank}
 use Rattle.plan_commands.specs.Commands.{decode}
-use Rattle.plan_commands.proofs.Laws.Commands.{node_room, flow_number, node_at, flow_at_lem}
+use Rattle.plan_commands.proofs.Laws.Commands.{node_room, flow_number, node_at_lem, flow_at_lem}
 use Rattle.plan_commands.proofs.Laws.Decode.{fault_none}
 
 -- How far a reading can come: a NODE makes one of at most 63 links, and a FLOW raises the next number, at most 64.
@@ -52,8 +52,8 @@ within_more bytes at d w e =
 -- The operands of a command, by the bytes.
 module _ (xs ys : List ℕ) (w : Agreeing xs ys) (at : ℕ) (room : at + 5 < 1024) where
   node_alike : node_at xs at ≡ node_at ys at
-  node_alike = sym (node_at xs at _ _ _ refl refl refl)
-      ∙ node_at ys at _ _ _ (w.same (at + 1) (omega arith))
+  node_alike = sym (node_at_lem xs at _ _ _ refl refl refl)
+      ∙ node_at_lem ys at _ _ _ (w.same (at + 1) (omega arith))
       (rw (w.same (at + 2) (omega arith), w.same (at + 3) (omega arith)))
       (rw (w.same (at + 4) (omega arith), w.same (at + 5) (omega arith)))
 

@@ -66,9 +66,9 @@ link_passed links l e =
     (o.0, o.1, (slots_when l.offset l.period).0 b.0)
 
 -- The operands of the LINK at index `at`.
-pub link_at : (bytes : List ℕ) (at n o p : ℕ) → n ≡ get_or bytes (at + 1) 0 → o ≡ get_or bytes (at + 2) 0 + 256 * get_or bytes (at + 3) 0
+pub link_at_lem : (bytes : List ℕ) (at n o p : ℕ) → n ≡ get_or bytes (at + 1) 0 → o ≡ get_or bytes (at + 2) 0 + 256 * get_or bytes (at + 3) 0
     → p ≡ get_or bytes (at + 4) 0 + 256 * get_or bytes (at + 5) 0 → record { node = n; offset = o; period = p } ≡ link_at bytes at
 unfolding link_at
-link_at bytes at n o p en eo ep =
+link_at_lem bytes at n o p en eo ep =
     rw (number_one bytes (at + 1), number_two bytes (at + 2) (at + 3) (omega arith), number_two bytes (at + 4) (at + 5) (omega arith))
     (λ i. record { node = en i; offset = eo i; period = ep i })

@@ -11,7 +11,7 @@ use Rattle.schedule_reader.specs.declared.Link.{Link}
 use Rattle.schedule_check.specs.declared.Schedule.{Schedule}
 use Rattle.schedule_check.specs.Schedules.{without_links}
 use Rattle.schedule_reader.specs.Read.{link_at, link_added, schedules, schedule_fault, schedule_read}
-use Rattle.schedule_reader.proofs.Laws.Commands.{link_passed, link_at}
+use Rattle.schedule_reader.proofs.Laws.Commands.{link_passed, link_at_lem}
 
 pub schedule_start : (bytes : List ℕ) → schedule_read bytes ≡ read_on schedules bytes 0 without_links
 unfolding schedule_read read_on
@@ -45,8 +45,8 @@ within_more bytes at s w e =
     record { place = omega (arith, w.place); few = omega arith }
 
 link_alike : (xs ys : List ℕ) → Agreeing xs ys → (at : ℕ) → at + 5 < 1024 → link_at xs at ≡ link_at ys at
-link_alike xs ys w at room = sym (link_at xs at _ _ _ refl refl refl)
-    ∙ link_at ys at _ _ _ (w.same (at + 1) (omega arith))
+link_alike xs ys w at room = sym (link_at_lem xs at _ _ _ refl refl refl)
+    ∙ link_at_lem ys at _ _ _ (w.same (at + 1) (omega arith))
     (rw (w.same (at + 2) (omega arith), w.same (at + 3) (omega arith)))
     (rw (w.same (at + 4) (omega arith), w.same (at + 5) (omega arith)))
 

@@ -32,7 +32,7 @@ value-of-requires c κs = search rules
 returns : tie.Need-returns
 returns c =
     number_found _ _ _ c.before.before.before.before.scan.ensures _ _ c.before.before.before.if1.true c.before.before.scan2.ensures
-    c.value_of_lem.ensures
+    c.value-of.ensures
 
 returns-2 : tie.Need-returns-2
 returns-2 c = number_none _ _ _ c.before.scan.ensures c.if1.false

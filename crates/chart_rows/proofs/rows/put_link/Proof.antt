@@ -59,7 +59,7 @@ returns c =
     let named = timed.before.before.before.before in
     let start = named.before.before.before.before.before.before.before.before.before.before.before.before.before.before.before in
     link_as start.args.t3 _ _ _ start.args.slots _ _ _ _ _ _ _
-    named.before.before.before.before.before.before.before.before.before.before.value_of_lem.ensures
+    named.before.before.before.before.before.before.before.before.before.before.value-of.ensures
     named.before.before.before.before.before.before.value-of2.ensures
     named.before.before.value-of3.ensures
     drawn.before.slot-width.ensures marked.before.Shown-of.ensures
