@@ -8,4 +8,4 @@ use Rattle.text.proofs.put_decimal.Goals as goal
 pub returns : goal.returns
 returns c =
     c.put.ensures
-    ∙ put_as _ _ _ (spelled _ _ _ c.decimal-n.ensures.1.1 c.decimal-n.ensures.1.0)
+    ∙ put_as _ _ _ (spelled _ _ _ c.decimal-n.ensures.digits c.decimal-n.ensures.len)
