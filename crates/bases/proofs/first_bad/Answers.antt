@@ -4,10 +4,14 @@ use mathlib.Core.Path.{◌≡◌, sym, ◌∙◌}
 use lib.ListN.{length}
 use borrow.Author.Tests.{eq-eqb, ne_eqb, lt-ltb, le-ltb}
 use native.Mathlib.Omega.{arith}
+use mathlib.Core.Logic.{◌⊎◌, inl, inr}
+use lib.ListN.{get_or}
+use Prim.Native.Nat.{◌<◌, ◌≤◌}
+use lib.Dec.{eqb}
+use Rattle.std.proofs.Math.Bool.{or-true}
 use Rattle.slot_rule.specs.Assign.{bad_gap, first_bad}
 use Rattle.lists.proofs.Laws.Search.{first_hit, first_miss, first_end}
 use Rattle.bases.proofs.first_bad.Goals as goal
-use Rattle.bases.proofs.first_bad.Goals.{then-gaps-i-eq0-via-then-gaps-i-eq0, then-gaps-i-eq0-via-else-gaps-i-eq0+then-gaps-i-gt1024}
 
 pub loop-i-init : goal.loop-i-init
 unfolding first_bad
@@ -18,16 +22,15 @@ unfolding bad_gap
 returns-then-gaps-i-eq0 c =
     sym (c.loop-i.invariant.1
     ∙ first_hit _ _ _ c.loop-i-test.true
-    (elim c.then-gaps-i-eq0.branch [
-      | then-gaps-i-eq0-via-then-gaps-i-eq0 w ↦ simp (eq-eqb _ _ w.if-gaps-i-eq0.true)
-      | then-gaps-i-eq0-via-else-gaps-i-eq0+then-gaps-i-gt1024 w ↦ simp (ne_eqb _ _ w.if-gaps-i-eq0.false, lt-ltb _ _ w.if-gaps-i-gt1024.true)
-    ]))
+    (let out : (get_or c.args.gaps.now c.loop-i.i 0 ≡ 0) ⊎ (1024 < get_or c.args.gaps.now c.loop-i.i 0) = grind arith in
+    elim out [ inl z ↦ simp (eq-eqb _ _ z) | inr l ↦ simp (or-true (eqb (get_or c.args.gaps.now c.loop-i.i 0) 0), lt-ltb _ _ l) ]))
 
 pub loop-i-preserved : goal.loop-i-preserved
 unfolding bad_gap
 loop-i-preserved c =
     let on = c.loop-i-test.true in
-    (search rules, c.loop-i.invariant.1 ∙ first_miss _ _ _ on (simp (ne_eqb _ _ c.if-gaps-i-eq0.false, le-ltb _ _ c.if-gaps-i-gt1024.false)))
+    let most : get_or c.args.gaps.now c.loop-i.i 0 ≤ 1024 = omega arith in
+    (search rules, c.loop-i.invariant.1 ∙ first_miss _ _ _ on (simp (ne_eqb _ _ c.if-gaps-i-eq0.false, le-ltb _ _ most)))
 
 pub returns : goal.returns
 returns c = sym (c.loop-i.invariant.1 ∙ first_end _ _ _ c.loop-i-test.false)

@@ -49,7 +49,9 @@ overflow_add-loads c =
     )
 
 pub bounds-loads-i-in-loop-node : goal.bounds-loads-i-in-loop-node
-bounds-loads-i-in-loop-node c = slice-read-loads c
+bounds-loads-i-in-loop-node c =
+    carrying_within _ _ _ _ _ _ _ _ c.loop-node.invariant.0 c.parent_of-parent.ensures
+    (search rules) (omega arith)
 
 pub overflow_add-sum : goal.overflow_add-sum
 overflow_add-sum c = omega (arith, c.loop-node.invariant.1.room)

@@ -9,20 +9,13 @@ use Rattle.reservations.specs.Reservations.{first_over}
 use Rattle.reservations.proofs.Laws.Reservations.{load_in, over_yes, over_no}
 use Rattle.link_loads.proofs.first_faults.Goals as goal
 
--- Any site with these lists.
-abbrev site : goal.Start → Site → Site
-site c s =
-    let a = c.args in
-    of_lists a.links a.parents.now a.capacities.now s.gaps s.offsets a.periods.now a.states.now a.entries.now a.rates.now
-    a.deadlines.now
-
 pub loop-i-init : goal.loop-i-init
 unfolding used first_over
 loop-i-init c =
     let counted = c.link_count-count.ensures in (
       omega (arith, counted),
       omega arith,
-      λ s. (c.reserve-late.ensures (site c.before.before.before.before s), rw (counted, sub-zero)),
+      λ s. (c.reserve-late.ensures (of_lists c.args.links c.args.parents.now c.args.capacities.now s.gaps s.offsets c.args.periods.now c.args.states.now c.args.entries.now c.args.rates.now c.args.deadlines.now), rw (counted, sub-zero)),
     )
 
 pub loop-i-preserved : goal.loop-i-preserved

@@ -13,19 +13,13 @@ use Rattle.reservations.proofs.Laws.Reservations.{judging_start, judging_idle, j
 use Rattle.link_loads.proofs.reserve.Goals as goal
 use Rattle.link_loads.proofs.reserve.Goals.{else-states-n-eq1, then-states-n-eq1}
 
--- Any site with these lists.
-abbrev site : goal.Start → Site → Site
-site c s =
-    let a = c.args in
-    of_lists s.links a.parents.now s.capacities s.gaps s.offsets a.periods.now a.states.now a.entries.now a.rates.now a.deadlines.now
-
 pub loop-left-init : goal.loop-left-init
 loop-left-init c =
     let zeros = c.requires in (
       omega arith,
       rw zeros,
       λ i. rw (zeros, get_or_replicated 63 i 0) (omega arith),
-      λ s. (left_start _ _ (c.live_count-left.ensures (site c.before.before s)), rw zeros (judging_start _)),
+      λ s. (left_start _ _ (c.live_count-left.ensures (of_lists s.links c.args.parents.now s.capacities s.gaps s.offsets c.args.periods.now c.args.states.now c.args.entries.now c.args.rates.now c.args.deadlines.now)), rw zeros (judging_start _)),
     )
 
 pub bounds-states-n : goal.bounds-states-n

@@ -1,5 +1,6 @@
 use borrow.Author.Rules.{rules}
-use Prim.Native.Nat.{◌-◌}
+use Prim.Native.Nat.{ℕ, ◌-◌}
+use mathlib.Core.List.{List}
 use mathlib.Core.Path.{sym}
 use lib.ListN.{get_or}
 use native.Mathlib.Omega.{arith}
@@ -11,32 +12,9 @@ use Rattle.schedule.proofs.Laws.Schedule.{chained_rising, chained_chain, gathere
 use Rattle.schedule.proofs.Laws.Schedule.{assigning_crowded, assigning_end}
 use Rattle.schedule.proofs.assign_all.Goals as goal
 
--- The turn of a parent with children, from the first of them on.
--- On any site with these parents and gaps: the children's chain, the gaps that the slot rule is asked for, and what it assigns.
-module _ (s : Site) where
-  abbrev site : tie.Else1 invariant-loop decreases-loop → Site
-  site c =
-      let lent = c.before.before.before.before.before.before.before.args in
-      of_lists lent.links lent.parents.now s.capacities lent.gaps.now s.offsets s.periods s.states s.entries s.rates s.deadlines
-
-  abbrev sofar : (c : tie.Else1 invariant-loop decreases-loop)
-      → Assigning (site c) c.before.before.before.before.before.before.link-count.result c.before.before.before.before.chains-of.result.first c.before.before.before.before.chains-of.result.next c.loop.p
-      c.loop.offsets c.loop.periods
-  sofar c = c.loop.invariant.2 s
-
-  chain : (c : tie.Else1 invariant-loop decreases-loop)
-      → Chain (site c).parents c.before.before.before.before.chains-of.result.next c.before.before.before.before.before.before.link-count.result c.loop.p
-      (get_or c.before.before.before.before.chains-of.result.first c.loop.p 0)
-  chain c = chained_chain _ _ _ _ (sofar c).chained _ (omega (arith, (sofar c).most, (sofar c).links))
-
-  gathered : (c : tie.After-gaps-under invariant-loop decreases-loop)
-      → GapsOf (gaps_under (site c) (at c).loop.p) c.gaps-under.result c.gaps-under.new.1.1.1.1.0
-  gathered c = gathered_all (site c) _ _ _ _ (sofar c).all (c.gaps-under.ensures _ _ (chain c))
-
-  assigned : (c : tie.After-assign-to invariant-loop decreases-loop)
-      → AssignedTo (site (turn c)) (at (turn c)).loop.p c.assign-to.result c.gaps-under.result
-      c.assign-to.new.1.1.0 c.assign-to.new.1.1.1.0
-  assigned c = c.assign-to.ensures _ _ (gathered c)
+-- The site s with these parents and gaps.
+abbrev lent : ℕ → List ℕ → List ℕ → Site → Site
+lent links parents gaps s = of_lists links parents s.capacities gaps s.offsets s.periods s.states s.entries s.rates s.deadlines
 
 pub chains_of-chains-requires : goal.chains_of-chains-requires
 unfolding used
@@ -58,10 +36,14 @@ loop-p-preserved-then-count-child c =
 
 pub gaps_under-n-requires : goal.gaps_under-n-requires
 gaps_under-n-requires c =
-    (search rules, c.loop-p.invariant.1, chained_rising _ _ _ _ (sofar empty_site c.before.before.before.before.before).chained, search rules, c.loop-p.invariant.0)
+    (search rules, c.loop-p.invariant.1, chained_rising _ _ _ _ (c.loop-p.invariant.2 empty_site).chained, search rules, c.loop-p.invariant.0)
 
 pub slice_bounds-assign_to-end : goal.slice_bounds-assign_to-end
-slice_bounds-assign_to-end c = sym (gathered empty_site c.before.before.before).long
+slice_bounds-assign_to-end c =
+    let here = c.loop-p.invariant.2 empty_site in
+    let chain = chained_chain _ _ _ _ here.chained _ (omega (arith, here.most, here.links)) in
+    let gathered = gathered_all (lent c.args.links c.args.parents.now c.args.gaps.now empty_site) _ _ _ _ here.all (c.gaps_under-n.ensures _ _ chain) in
+    sym gathered.long
 
 pub slice_bounds-assign_to-end-in-loop-p : goal.slice_bounds-assign_to-end-in-loop-p
 slice_bounds-assign_to-end-in-loop-p c = rw c.zeros-os.ensures
@@ -71,48 +53,65 @@ slice_bounds-assign_to-end-in-loop-p-2 c = rw c.zeros-ps.ensures
 
 pub assign_to-base-requires : goal.assign_to-base-requires
 assign_to-base-requires c =
-    let g = gathered empty_site c.before.before.before.before.before in (
-      g.few,
-      g.long,
-      c.zeros-os.ensures,
-      c.zeros-ps.ensures,
-    )
+    let here = c.loop-p.invariant.2 empty_site in
+    let chain = chained_chain _ _ _ _ here.chained _ (omega (arith, here.most, here.links)) in
+    let gathered = gathered_all (lent c.args.links c.args.parents.now c.args.gaps.now empty_site) _ _ _ _ here.all (c.gaps_under-n.ensures _ _ chain) in
+    (gathered.few, gathered.long, c.zeros-os.ensures, c.zeros-ps.ensures)
 
 pub slice_bounds-spread-end-in-loop-p : goal.slice_bounds-spread-end-in-loop-p
-slice_bounds-spread-end-in-loop-p c = sym (assigned empty_site c.before.before.before.before.before.before.before).offsets_long
+slice_bounds-spread-end-in-loop-p c =
+    let here = c.loop-p.invariant.2 empty_site in
+    let chain = chained_chain _ _ _ _ here.chained _ (omega (arith, here.most, here.links)) in
+    let gathered = gathered_all (lent c.args.links c.args.parents.now c.args.gaps.now empty_site) _ _ _ _ here.all (c.gaps_under-n.ensures _ _ chain) in
+    let assigned = c.assign_to-base.ensures _ _ gathered in
+    sym assigned.offsets_long
 
 pub slice_bounds-spread-end-in-loop-p-2 : goal.slice_bounds-spread-end-in-loop-p-2
-slice_bounds-spread-end-in-loop-p-2 c = sym (assigned empty_site c.before.before.before.before.before.before.before.before).periods_long
+slice_bounds-spread-end-in-loop-p-2 c =
+    let here = c.loop-p.invariant.2 empty_site in
+    let chain = chained_chain _ _ _ _ here.chained _ (omega (arith, here.most, here.links)) in
+    let gathered = gathered_all (lent c.args.links c.args.parents.now c.args.gaps.now empty_site) _ _ _ _ here.all (c.gaps_under-n.ensures _ _ chain) in
+    let assigned = c.assign_to-base.ensures _ _ gathered in
+    sym assigned.periods_long
 
 pub spread-requires : goal.spread-requires
 spread-requires c =
-    let parent = turn c.before.before.before.before.before.before.before.before.before.before in
-    let here = sofar empty_site parent in (
-      omega (arith, parent.if1.left),
+    let here = c.loop-p.invariant.2 empty_site in
+    let chain = chained_chain _ _ _ _ here.chained _ (omega (arith, here.most, here.links)) in
+    let gathered = gathered_all (lent c.args.links c.args.parents.now c.args.gaps.now empty_site) _ _ _ _ here.all (c.gaps_under-n.ensures _ _ chain) in
+    let assigned = c.assign_to-base.ensures _ _ gathered in
+    (
+      omega (arith, c.if-count-child.false),
       here.links,
       chained_rising _ _ _ _ here.chained,
-      (assigned empty_site c.before.before.before.before.before.before.before.before.before.before).offsets_long,
-      (assigned empty_site c.before.before.before.before.before.before.before.before.before.before).periods_long,
+      assigned.offsets_long,
+      assigned.periods_long,
       here.offsets.long,
       here.periods.long,
     )
 
 pub loop-p-preserved : goal.loop-p-preserved
 loop-p-preserved c =
-    let parent = turn c.before.before.before.before.before.before.before.before.before.before.before in (
-      (gathered empty_site c.before.before.before.before.before.before.before.before.before.before.before).long,
-      (at parent).loop.inv.1,
+    let here = c.loop-p.invariant.2 empty_site in
+    let chain = chained_chain _ _ _ _ here.chained _ (omega (arith, here.most, here.links)) in
+    let gathered = gathered_all (lent c.args.links c.args.parents.now c.args.gaps.now empty_site) _ _ _ _ here.all (c.gaps_under-n.ensures _ _ chain) in
+    (
+      gathered.long,
+      c.loop-p.invariant.1,
       λ s.
-          let spread = c.spread.ensures _ _ (chain s parent) in
-          assigning_more _ _ _ _ _ _ _ (sofar s parent) parent.before.before.loop-test.taken _ _ _ _ (assigned s c.before.before.before.before.before.before.before.before.before.before.before)
-          c.if-base-eq0.false _ _ spread.0 spread.1,
+          let of_s = c.loop-p.invariant.2 s in
+          let chain_s = chained_chain _ _ _ _ of_s.chained _ (omega (arith, of_s.most, of_s.links)) in
+          let assigned = c.assign_to-base.ensures _ _ (gathered_all (lent c.args.links c.args.parents.now c.args.gaps.now s) _ _ _ _ of_s.all (c.gaps_under-n.ensures _ _ chain_s)) in
+          let spread = c.spread.ensures _ _ chain_s in
+          assigning_more _ _ _ _ _ _ _ of_s c.loop-p-test.true _ _ _ _ assigned c.if-base-eq0.false _ _ spread.0 spread.1,
     )
 
 pub returns-after-loop-p : goal.returns-after-loop-p
 returns-after-loop-p c = λ s. assigning_end _ _ _ _ _ _ _ (c.loop-p.invariant.2 s) (search rules)
 
 pub returns-then-base-eq0 : goal.returns-then-base-eq0
-returns-then-base-eq0 c =
-    let parent = turn c.before.before.before in
-    λ s. assigning_crowded _ _ _ _ _ _ _ (sofar s parent) parent.before.before.loop-test.taken _ _ _ _ (assigned s c.before.before.before) parent.if1.left
-    c.if-base-eq0.true
+returns-then-base-eq0 c = λ s.
+    let of_s = c.loop-p.invariant.2 s in
+    let chain_s = chained_chain _ _ _ _ of_s.chained _ (omega (arith, of_s.most, of_s.links)) in
+    let assigned = c.assign_to-base.ensures _ _ (gathered_all (lent c.args.links c.args.parents.now c.args.gaps.now s) _ _ _ _ of_s.all (c.gaps_under-n.ensures _ _ chain_s)) in
+    assigning_crowded _ _ _ _ _ _ _ of_s c.loop-p-test.true _ _ _ _ assigned c.if-count-child.false c.if-base-eq0.true
