@@ -13,7 +13,7 @@ returns-then-not-lists_pass c = handed_ill _ _ c.lists_pass.ensures _ _ (not_fro
 
 pub put_schedule-requires : goal.put_schedule-requires
 put_schedule-requires c =
-    let listed : Listed (of_lists c.args.links c.args.offsets.now c.args.periods.now) = (passes_listed _).0 (sym c.lists_pass.ensures ∙ not-false _ c.if-not-lists_pass.false) in
+    let listed : Listed (of_lists c.args.links c.args.offsets.now c.args.periods.now) = (passes_listed _).0 (sym c.lists_pass.ensures ∙ c.if-not-lists_pass.false) in
     let w = listed in (w.few, w.offsets_long, w.periods_long)
 
 pub returns : goal.returns
