@@ -42,6 +42,7 @@ pub fn find(text: &[u8], from: usize, byte: u8) -> usize
     text.len()
 }
 
+#[tactic(auto, unfolding(crate::specs::Words::is_blank))]
 fn blank_byte(byte: u8) -> bool
     ensures { result ≡ is_blank byte }
 {
