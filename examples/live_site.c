@@ -1,7 +1,7 @@
 /*
  * A host of a live site.  From the top of the repository:
  *
- *     rt staticlib slotplan_lib
+ *     tools/library.sh
  *     gcc -std=c99 -I include examples/live_site.c target/staticlib/libslotplan_lib.a -o live_site
  *     ./live_site
  *

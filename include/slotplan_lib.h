@@ -1,7 +1,7 @@
 /*
  * Slot plans of toll plazas for programs in C.  The functions are those of the crate
- * `slotplan_lib`; `rt staticlib slotplan_lib` proves them and writes
- * target/staticlib/libslotplan_lib.a for x86-64 Linux.
+ * `slotplan_lib`, which the crate `slotplan_lib_c` exports; `tools/library.sh` proves both and
+ * writes target/staticlib/libslotplan_lib.a for x86-64 Linux.
  *
  * The state of a live site is its plan bytes and 576 counters.  The host keeps both; the library
  * keeps nothing between calls and reserves no memory.  Of the C library the archive asks for memcpy
@@ -25,7 +25,7 @@
  *
  * Each function lists its checks in their order.  The first that fails refuses the call, with its
  * number and a place; then all memory is as it was before.  Both are proved over all eleven
- * functions: laws host-first and refused-leaves of the crate host_runs.  The numbers are those of
+ * functions: laws host_first and refused_leaves of the crate host_runs.  The numbers are those of
  * documents 01 and 02:
  *
  *    1  a buffer to be filled is too short; any other list has not the length it must have
@@ -57,7 +57,7 @@
  * value says, are its plan; after a refused one the old bytes still are.  Then what demand 3 claims
  * holds for every flow that begins with cells of 0, stays admitted and gets at most its rate in a
  * slot, while no rehearsal starts anew and the numbers of accepted slots rise by one: law
- * host-demand3 of the crate host_runs.  Calls of the other functions may stand anywhere between.
+ * host_demand3 of the crate host_runs.  Calls of the other functions may stand anywhere between.
  */
 #ifndef SLOTPLAN_LIB_H
 #define SLOTPLAN_LIB_H

@@ -1,5 +1,6 @@
-// The functions for hosts in C and Rust (include/slotplan_lib.h). The state of a site is its plan bytes; each answer is one number of 64 bits. The eleven are one
-// subject, the names that a host links, and each is one call, so that what a call does is said and proved once, in the crate of its subject.
+// The functions for hosts in C and Rust (include/slotplan_lib.h), which slotplan_lib_c exports. The state of a site is its plan bytes; each answer is one number
+// of 64 bits. The eleven are one subject, the names that a host links, and each is one call, so that what a call does is said and proved once, in the crate of
+// its subject.
 #![tactic(auto)]
 
 ghost use Rattle.std.specs.Prelude.{◌≡◌};
@@ -10,28 +11,21 @@ ghost use Rattle.host_changes.specs.Changes.{admit_from, release_from};
 ghost use Rattle.host_lists.specs.Lists.{schedule_read_from, schedule_written_from};
 
 // 01: the reader. A host learns by it whether bytes are a plan, and else which check refuses them.
-#[unsafe(no_mangle)]
-pub extern "C" fn slotplan_read_plan(plan: &[u8]) -> u64
+pub fn slotplan_read_plan(plan: &[u8]) -> u64
     ensures { told result ≡ plan_read_from plan.now }
 {
     host_calls::read_plan(plan)
 }
 
 // 01: the schedule of a plan, as LINK commands.
-#[unsafe(no_mangle)]
-pub extern "C" fn slotplan_schedule(plan: &[u8], out: &mut [u8]) -> u64
+pub fn slotplan_schedule(plan: &[u8], out: &mut [u8]) -> u64
     ensures { (told result, out.new) ≡ schedule_from plan.now out.old }
 {
     host_calls::schedule(plan, out)
 }
 
 // 02, U1: a schedule file by itself, with no plan to judge it by.
-#[unsafe(no_mangle)]
-pub extern "C" fn slotplan_read_schedule(
-    file: &[u8],
-    offsets: &mut [u16],
-    periods: &mut [u16],
-) -> u64
+pub fn slotplan_read_schedule(file: &[u8], offsets: &mut [u16], periods: &mut [u16]) -> u64
     ensures { (told result, offsets.new, periods.new)
         ≡ schedule_read_from file.now offsets.old periods.old }
 {
@@ -39,8 +33,7 @@ pub extern "C" fn slotplan_read_schedule(
 }
 
 // 02, U1: the way back, with the check 14 of a schedule.
-#[unsafe(no_mangle)]
-pub extern "C" fn slotplan_write_schedule<'a>(
+pub fn slotplan_write_schedule<'a>(
     links: u8,
     offsets: &'a [u16],
     periods: &'a [u16],
@@ -53,8 +46,7 @@ pub extern "C" fn slotplan_write_schedule<'a>(
 }
 
 // 01: an admission on plan bytes, so that what it writes is the live site.
-#[unsafe(no_mangle)]
-pub extern "C" fn slotplan_admit(
+pub fn slotplan_admit(
     plan: &[u8],
     counters: &mut [u32],
     number: u8,
@@ -70,58 +62,42 @@ pub extern "C" fn slotplan_admit(
 }
 
 // 01: a release on plan bytes, likewise.
-#[unsafe(no_mangle)]
-pub extern "C" fn slotplan_release(
-    plan: &[u8],
-    counters: &mut [u32],
-    number: u8,
-    out: &mut [u8],
-) -> u64
+pub fn slotplan_release(plan: &[u8], counters: &mut [u32], number: u8, out: &mut [u8]) -> u64
     ensures { (told result, counters.new, out.new) ≡ release_from plan.now counters.old number out.old }
 {
     host_changes::release(plan, counters, number, out)
 }
 
 // 01: a start asks check 14 before it clears anything, so it takes the plan too.
-#[unsafe(no_mangle)]
-pub extern "C" fn slotplan_start(plan: &[u8], counters: &mut [u32]) -> u64
+pub fn slotplan_start(plan: &[u8], counters: &mut [u32]) -> u64
     ensures { (told result, counters.new) ≡ start_from plan.now counters.old }
 {
     host_calls::start(plan, counters)
 }
 
 // 01: one slot. The bytes are all that a host keeps of a site, so check 14 is asked in each.
-#[unsafe(no_mangle)]
-pub extern "C" fn slotplan_slot(
-    plan: &[u8],
-    counters: &mut [u32],
-    arrivals: &[u16],
-    slot: u32,
-) -> u64
+pub fn slotplan_slot(plan: &[u8], counters: &mut [u32], arrivals: &[u16], slot: u32) -> u64
     ensures { (told result, counters.new) ≡ slot_from plan.now counters.old arrivals.now slot }
 {
     host_calls::slot(plan, counters, arrivals, slot)
 }
 
 // 01: the lookup of parent and slot.
-#[unsafe(no_mangle)]
-pub extern "C" fn slotplan_sender(plan: &[u8], parent: u8, slot: u32) -> u64
+pub fn slotplan_sender(plan: &[u8], parent: u8, slot: u32) -> u64
     ensures { told result ≡ sender_from plan.now parent slot }
 {
     host_calls::sender(plan, parent, slot)
 }
 
 // G, which a report prints beside the deadline, for hosts that print nothing.
-#[unsafe(no_mangle)]
-pub extern "C" fn slotplan_bound(plan: &[u8], number: u8) -> u64
+pub fn slotplan_bound(plan: &[u8], number: u8) -> u64
     ensures { told result ≡ bound_from plan.now number }
 {
     host_calls::bound(plan, number)
 }
 
 // 01 wants the slot rule by itself, for those who have neither a plan nor flows.
-#[unsafe(no_mangle)]
-pub extern "C" fn slotplan_assign(gaps: &[u16], offsets: &mut [u16], periods: &mut [u16]) -> u64
+pub fn slotplan_assign(gaps: &[u16], offsets: &mut [u16], periods: &mut [u16]) -> u64
     ensures { (told result, offsets.new, periods.new) ≡ assigned 2 gaps.now offsets.old periods.old }
 {
     host_lists::assign(gaps, offsets, periods)
