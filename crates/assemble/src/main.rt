@@ -1,6 +1,7 @@
 // Turns the typed plan on standard input into plan bytes on standard output, or tells its first wrong line on standard error.
 #![tactic(auto)]
 
+use std::env::{Env, FillError};
 use typed_plan::Assembled;
 
 fn put_node_fault(out: &mut [u8], at: usize, place: u8) -> usize {
@@ -56,9 +57,14 @@ fn finish(assembled: Assembled, plan: &[u8]) {
     }
 }
 
+// Whether the command line has a word at this place; the first is the name of the program.
+fn has_word(rt: &impl Env, at: usize) -> bool {
+    !matches!(rt.arg(at, &mut [0u8; 1]), Err(FillError::NotPresent))
+}
+
 // A text of 65,536 bytes is too long already. The plan of any shorter one has at most 393,217 bytes: this is the law `plan_short` of crate `typed_plan`.
-fn main() {
-    if os::arg_count() != 1 {
+fn main(rt: HostRuntime) {
+    if !has_word(&rt, 0) || has_word(&rt, 1) {
         io::write_all(2, b"usage: assemble < TEXT > PLAN\n");
         return;
     }

@@ -9,6 +9,7 @@ mod refusals;
 use page::{print_head, print_tail};
 use rulings::Verdict;
 use site::Site;
+use std::env::{Env, FillError};
 
 // A plan without links has neither slots nor flows to show.
 fn print_wired() {
@@ -47,9 +48,14 @@ fn print_plan(bytes: &[u8]) {
     }
 }
 
+// Whether the command line has a word at this place; the first is the name of the program.
+fn has_word(rt: &impl Env, at: usize) -> bool {
+    !matches!(rt.arg(at, &mut [0u8; 1]), Err(FillError::NotPresent))
+}
+
 // No input can pass more than 63 NODEs, 64 FLOWs and END, so its first 1,024 bytes settle every answer: this is the law `read_first` of crate `format`.
-fn main() {
-    if os::arg_count() != 1 {
+fn main(rt: HostRuntime) {
+    if !has_word(&rt, 0) || has_word(&rt, 1) {
         io::write_all(2, b"usage: chart < PLAN > PICTURE.svg\n");
         return;
     }

@@ -2,12 +2,18 @@
 // the site as it is now, and gets its answer. What lines come to is in crate `rehearsal`; here they are read, handed on and answered.
 #![tactic(auto)]
 
-ghost use Rattle.std.specs.Prelude.{ℕ, ◌≡◌, List};
+ghost use Rattle.std.specs.Prelude.{ℕ, ◌≡◌, ◌≤◌, List, length};
+ghost use Rattle.io.specs.Counts.{IsPrefixLen};
 ghost use Rattle.rehearsal.specs.Desk.{begun, desk, fed, GoesOn, SomeTyped};
 
 use rehearsal::Rehearsal;
 use rulings::Verdict;
 use site::Site;
+use std::env::{Env, FillError};
+use std::fs::File;
+use std::io::{Read, Stdin};
+use std::os::fd::AsRawFd;
+use std::{fs, str};
 
 // Takes up what was typed and prints the answers. No answer has more than 8,192 bytes, so the space takes at least one at a time.
 fn answer_bytes(
@@ -34,8 +40,23 @@ fn answer_bytes(
     Rehearsal { site, kept }
 }
 
+// Reads what is there, once, into the front of the space, and answers how many bytes. A read that fails counts as the end of the input.
+fn read_some(mut input: Stdin, bytes: &mut [u8]) -> usize
+    ensures { IsPrefixLen result bytes.new }
+{
+    match input.read(bytes) {
+        Ok(n) => n,
+        Err(_) => 0,
+    }
+}
+
 // Answers the lines of standard input. Nothing says that an input ends, so the loop counts its reads down, from a number that no run uses up.
-fn answer_input(before: Rehearsal, space: &mut [u8], counters: &mut [u32]) -> Rehearsal
+fn answer_input(
+    before: Rehearsal,
+    space: &mut [u8],
+    counters: &mut [u32],
+    input: Stdin,
+) -> Rehearsal
     ensures { SomeTyped (record { site = before.site; counters = counters.old }) space.old before.kept
         (record { site = result.site; counters = counters.new }) space.new result.kept }
 {
@@ -44,8 +65,7 @@ fn answer_input(before: Rehearsal, space: &mut [u8], counters: &mut [u32]) -> Re
     let mut kept = before.kept;
     let mut reads = u64::MAX;
     while 0 < reads {
-        let got = libc::read(0, &mut bytes);
-        let n = io::count(got, &bytes);
+        let n = read_some(input, &mut bytes);
         if n == 0 {
             break;
         }
@@ -59,14 +79,14 @@ fn answer_input(before: Rehearsal, space: &mut [u8], counters: &mut [u32]) -> Re
 }
 
 // Starts a rehearsal of the site and answers all lines; the last may lack its newline. Answers the site that is left.
-fn rehearse_site(site: Site, counters: &mut [u32]) -> Site
+fn rehearse_site(site: Site, counters: &mut [u32], input: Stdin) -> Site
     ensures { (typed : List ℕ) × (record { site = result; counters = counters.new }
         ≡ (fed 1000 (desk (begun site counters.old)) typed).state) }
 {
     let mut space = [0u8; 1000];
     simulation::start(site, counters);
     let begun = Rehearsal { site, kept: 0 };
-    let ended = answer_input(begun, &mut space, counters);
+    let ended = answer_input(begun, &mut space, counters, input);
     let last = answer_bytes(b"\n", ended, &mut space, counters);
     last.site
 }
@@ -78,14 +98,14 @@ fn print_verdict(verdict: Verdict) {
     io::write_all(1, b"\n");
 }
 
-fn rehearse_plan(bytes: &[u8]) {
+fn rehearse_plan(bytes: &[u8], input: Stdin) {
     let read = plan_reader::read_plan(bytes);
     let verdict = read.verdict;
     match verdict {
         Verdict::Accepted => {
             let mut counters = [0u32; 576];
             print_counts(read.site);
-            rehearse_site(read.site, &mut counters);
+            rehearse_site(read.site, &mut counters, input);
         }
         Verdict::Refused(_, _) => print_verdict(verdict),
     }
@@ -103,21 +123,44 @@ fn tell_unopened(path: &[u8]) {
     io::write_all(2, b"\n");
 }
 
+// Opens the file for reading. A name that is not UTF-8 counts as one of no file, since a path of std is text.
+fn open(rt: &HostRuntime, path: &[u8]) -> Option<File> {
+    let text = str::from_utf8(path).ok()?;
+    fs::open(rt, text).ok()
+}
+
 // No plan is longer than 763 bytes, so the first 1,024 of the file settle every answer: the law `read_first` of crate `plan_reader`.
-fn main() {
-    if os::arg_count() != 2 {
+fn rehearse_file(file: File, input: Stdin) {
+    let mut bytes = [0u8; 1024];
+    let n = io::read_full(file.as_raw_fd(), &mut bytes);
+    drop(file);
+    rehearse_plan(&bytes[..n], input);
+}
+
+// Whether the command line has a word at this place; the first is the name of the program.
+fn has_word(rt: &impl Env, at: usize) -> bool {
+    !matches!(rt.arg(at, &mut [0u8; 1]), Err(FillError::NotPresent))
+}
+
+// Puts the argument at the front of the space and answers its length: 0 for one of more bytes than there is room for.
+fn put_argument(rt: &impl Env, space: &mut [u8]) -> usize
+    ensures { result ≤ length space.new }
+{
+    match rt.arg(1, space) {
+        Ok(n) => n,
+        Err(_) => 0,
+    }
+}
+
+fn main(rt: HostRuntime) {
+    if !has_word(&rt, 1) || has_word(&rt, 2) {
         io::write_all(2, b"usage: rehearse PLAN\n");
         return;
     }
     let mut path = io::buffer();
-    let length = os::arg(1, &mut path);
-    let file = os::open_read(&path[..length]);
-    if file < 0 {
-        tell_unopened(&path[..length]);
-        return;
+    let length = put_argument(&rt, &mut path);
+    match open(&rt, &path[..length]) {
+        Some(file) => rehearse_file(file, rt.stdin()),
+        None => tell_unopened(&path[..length]),
     }
-    let mut bytes = [0u8; 1024];
-    let n = io::read_full(file, &mut bytes);
-    libc::close(file);
-    rehearse_plan(&bytes[..n]);
 }
