@@ -1,0 +1,14 @@
+-- Right because the lines are put together in a space that has room for every text, and then handed on.
+use Prim.Native.Nat.{ℕ}
+use lib.ListN.{length-replicate}
+use native.Mathlib.Omega.{arith}
+use Rattle.report_lines.proofs.Laws.Deliver.{lines_written}
+use Rattle.plan_listing.specs.Listing.{listing_of}
+use Rattle.plan_listing.proofs.Laws.Short.{listing_short}
+use Rattle.plan_listing.proofs.list_plan.Goals as goal
+
+pub returns : goal.returns
+unfolding listing_of
+returns c =
+    lines_written _ _ _ _ _ c.put_listing-size.ensures
+    (listing_short _ (λ i. omega (arith, c.shared_slice_known-1.given i))) (length-replicate {A = ℕ} 8192 0) _ c.deliver.ensures

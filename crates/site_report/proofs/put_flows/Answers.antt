@@ -1,0 +1,24 @@
+use Prim.Native.Nat.{◌-◌}
+use mathlib.Core.Logic.{inl, inr}
+use native.Mathlib.Omega.{arith}
+use Rattle.report_lines.proofs.Laws.Lines.{printed_start, printed_line, printed_none, printed_all, printed_long}
+use Rattle.site_report.proofs.Laws.Lines.{flow_live, flow_idle}
+use Rattle.site_report.proofs.put_flows.Goals as goal
+use Rattle.site_report.proofs.put_flows.Goals.{else-site-n-eq1, then-site-n-eq1}
+
+pub loop-n-init : goal.loop-n-init
+loop-n-init c = (omega arith, printed_start _ _)
+
+pub loop-n-preserved : goal.loop-n-preserved
+loop-n-preserved c =
+    let sofar = c.loop-n.invariant in
+    elim c.if-site-n-eq1.branch [
+      | then-site-n-eq1 w ↦ (omega arith, printed_line _ _ _ _ sofar.1 _ (flow_live _ _ _ w.if-site-n-eq1.true w.delay_bound-bound.ensures) _ _ _ _ w.taken-is w.out-is w.put_flow-taken.ensures)
+      | else-site-n-eq1 w ↦ (omega arith, printed_none _ _ _ _ _ sofar.1 (flow_idle _ _ w.if-site-n-eq1.false) _ _ w.taken-is w.out-is)
+    ]
+
+pub shape_of-out : goal.shape_of-out
+shape_of-out c = printed_long _ _ _ _ c.loop-n.invariant.1
+
+pub returns : goal.returns
+returns c = printed_all _ _ _ _ _ c.loop-n.invariant.1 (omega (arith, c.loop-n.invariant.0))

@@ -1,0 +1,18 @@
+use Prim.Native.Nat.{◌-◌}
+use native.Mathlib.Omega.{arith}
+use Rattle.testlib_changes.specs.Changed.{field_text}
+use Rattle.report_lines.proofs.Laws.Lines.{printed_start, printed_more, printed_all, printed_long}
+use Rattle.testlib_changes.proofs.put_entries.Goals as goal
+
+pub loop-index-init : goal.loop-index-init
+loop-index-init c = (omega arith, printed_start _ _)
+
+pub loop-index-preserved : goal.loop-index-preserved
+loop-index-preserved c = (omega arith, printed_more _ _ _ _ _ c.loop-index.invariant.1 c.put_entry-taken.ensures)
+
+pub shape_of-out : goal.shape_of-out
+shape_of-out c = printed_long _ _ _ _ c.loop-index.invariant.1
+
+pub returns : goal.returns
+unfolding field_text
+returns c = printed_all _ _ _ _ _ c.loop-index.invariant.1 (omega (arith, c.loop-index.invariant.0))
