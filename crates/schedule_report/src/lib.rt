@@ -40,7 +40,7 @@ pub fn report_schedule(bytes: &[u8], out: &mut [u8]) -> Written
 
 fn put_link(out: &mut [u8], at: usize, i: usize, offset: u16, period: u16) -> usize
     requires { i < 63 }
-    ensures { (result, out.new) ≡ puts (at, out.old) (letters "link " ∷ decimal (i + 1) ∷ slotsText offset period) }
+    ensures { (result, out.new) ≡ puts (at, out.old) (letters "link " ∷ decimal (i + 1) ∷ slots_text offset period) }
 {
     let named = text::put_field(out, at, b"link ", i as u64 + 1);
     put_slots(out, named, offset, period)
