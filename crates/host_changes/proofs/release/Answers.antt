@@ -17,33 +17,33 @@ returns-then-counters-ne576 c = rw (told_no _ _ _ c.refusal.ensures (omega arith
 
 pub dropped-requires : goal.dropped-requires
 dropped-requires c =
-    let known : (passes_of c.read_plan-read.result.site ≡ true) × (plan_bytes c.read_plan-read.result.site ≡ c.args.plan.now) = read_to _ (λ i. omega (arith, c.shared_slice_known-1.given i)) _ _ c.read_plan-read.ensures c.enum_told-1.given.1 in
+    let known : (passes_of c.read_plan-read.result.site ≡ true) × (plan_bytes c.read_plan-read.result.site ≡ c.args.plan.now) = read_to _ (λ i. omega (arith, c.shared_slice_known-1.given i)) _ _ c.read_plan-read.ensures c.in-Accepted.is in
     let site = c.read_plan-read.result.site in (
       site,
       releasable _ known.0 _ c.if-counters-ne576.false _
-          (sym (ap ruling c.in-Accepted.is) ∙ c.judge_number-verdict.ensures site),
+          (sym (ap ruling c.in-Accepted-verdict.is) ∙ c.judge_number-verdict.ensures site),
       known.1,
     )
 
 pub returns-in-Accepted-verdict : goal.returns-in-Accepted-verdict
 unfolding release_from
 returns-in-Accepted-verdict c =
-    let known : (passes_of c.read_plan-read.result.site ≡ true) × (plan_bytes c.read_plan-read.result.site ≡ c.args.plan.now) = read_to _ (λ i. omega (arith, c.shared_slice_known-1.given i)) _ _ c.read_plan-read.ensures c.enum_told-1.given.1 in
+    let known : (passes_of c.read_plan-read.result.site ≡ true) × (plan_bytes c.read_plan-read.result.site ≡ c.args.plan.now) = read_to _ (λ i. omega (arith, c.shared_slice_known-1.given i)) _ _ c.read_plan-read.ensures c.in-Accepted.is in
     let site = c.read_plan-read.result.site in
-    let yes = sym (ap ruling c.in-Accepted.is) ∙ c.judge_number-verdict.ensures site in
+    let yes = sym (ap ruling c.in-Accepted-verdict.is) ∙ c.judge_number-verdict.ensures site in
     c.dropped.ensures site (releasable _ known.0 _ c.if-counters-ne576.false _ yes) known.1
     ∙ on_yes _ _ _ c.read_plan-read.ensures _ _ c.in-Accepted.is ∙ of_length_lem _ _ _ _ c.if-counters-ne576.false
 
 pub returns-in-Refused-verdict : goal.returns-in-Refused-verdict
 unfolding release_from
 returns-in-Refused-verdict c =
-    let known : (passes_of c.read_plan-read.result.site ≡ true) × (plan_bytes c.read_plan-read.result.site ≡ c.args.plan.now) = read_to _ (λ i. omega (arith, c.shared_slice_known-1.given i)) _ _ c.read_plan-read.ensures c.enum_told-1.given.1 in
+    let known : (passes_of c.read_plan-read.result.site ≡ true) × (plan_bytes c.read_plan-read.result.site ≡ c.args.plan.now) = read_to _ (λ i. omega (arith, c.shared_slice_known-1.given i)) _ _ c.read_plan-read.ensures c.in-Accepted.is in
     let site = c.read_plan-read.result.site in
-    let no = sym (ap ruling c.in-Refused.is) ∙ c.judge_number-verdict.ensures site in
+    let no = sym (ap ruling c.in-Refused-verdict.is) ∙ c.judge_number-verdict.ensures site in
     let room = (number_tellable site c.args.number (omega arith)).near _ _ (sym no) in
     rw (told_no _ _ _ c.refusal-in-Refused-verdict.ensures room.0 room.1)
     (release_no _ known.0 _ c.if-counters-ne576.false _ _ _ _ no
-    ∙ on_yes _ _ _ c.read_plan-read.ensures _ _ c.in-Refused.is ∙ of_length_lem _ _ _ _ c.if-counters-ne576.false)
+    ∙ on_yes _ _ _ c.read_plan-read.ensures _ _ c.in-Accepted.is ∙ of_length_lem _ _ _ _ c.if-counters-ne576.false)
 
 pub returns-in-Refused : goal.returns-in-Refused
 unfolding release_from

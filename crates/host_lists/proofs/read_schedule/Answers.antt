@@ -22,12 +22,12 @@ returns-then-periods-ne63 c =
 
 pub fill-requires : goal.fill-requires
 fill-requires c =
-    let listed : let read = c.read_lists-read in Listed (of_lists read.result.links read.new.1.0 read.new.1.1.0) = schedule_listed _ _ _ c.read_lists-read.ensures (λ i. omega (arith, c.shared_slice_known-1.given i)) c.enum_told-1.given.1 in
+    let listed : let read = c.read_lists-read in Listed (of_lists read.result.links read.new.offsets read.new.periods) = schedule_listed _ _ _ c.read_lists-read.ensures (λ i. omega (arith, c.shared_slice_known-1.given i)) c.in-Accepted.is in
     let long = listed in search rules
 
 pub fill-requires-in-Accepted : goal.fill-requires-in-Accepted
 fill-requires-in-Accepted c =
-    let listed : let read = c.read_lists-read in Listed (of_lists read.result.links read.new.1.0 read.new.1.1.0) = schedule_listed _ _ _ c.read_lists-read.ensures (λ i. omega (arith, c.shared_slice_known-1.given i)) c.enum_told-1.given.1 in
+    let listed : let read = c.read_lists-read in Listed (of_lists read.result.links read.new.offsets read.new.periods) = schedule_listed _ _ _ c.read_lists-read.ensures (λ i. omega (arith, c.shared_slice_known-1.given i)) c.in-Accepted.is in
     let long = listed in search rules
 
 pub returns-in-Accepted : goal.returns-in-Accepted
