@@ -35,6 +35,19 @@ no_zero (inl e) = absurd (omega arith)
 no_zero (inr (inl e)) = absurd (omega arith)
 no_zero (inr (inr e)) = absurd (omega arith)
 
+-- A line that is not wrong is one of the three others, and what is told that is no length one of the three others.
+pub not_bad : (t : Typed) → ((command place : ℕ) → t ≡ Bad command place → ⊥) → OneOf (0 ∷ 1 ∷ 2 ∷ []) (tag_of the_type t)
+not_bad Nothing never = inl refl
+not_bad (Node a b c) never = inr (inl refl)
+not_bad (Flow a b c d) never = inr (inr refl)
+not_bad (Bad a b) never = absurd (never a b refl)
+
+pub not_length : (a : Assembled) → ((n : ℕ) → a ≡ Length n → ⊥) → OneOf (1 ∷ 2 ∷ 3 ∷ []) (tag_of assembled-type a)
+not_length (Length n) never = absurd (never n refl)
+not_length (BadLine k command place) never = inl refl
+not_length Short never = inr (inl refl)
+not_length Long never = inr (inr refl)
+
 -- A line that is not wrong has another answer.
 right : (t : Typed) (k : ℕ) (other : Assembled) → OneOf (0 ∷ 1 ∷ 2 ∷ []) (tag_of the_type t) → wrong_or t k other ≡ other
 unfolding wrong_or

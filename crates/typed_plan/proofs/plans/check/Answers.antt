@@ -1,6 +1,6 @@
 use Prim.Native.Nat.{◌-◌}
 use native.Mathlib.Omega.{arith}
-use Rattle.typed_plan.proofs.Laws.Plans.{piece_short, checking_start, checking_wrong, checking_more, checking_last, line_on}
+use Rattle.typed_plan.proofs.Laws.Plans.{not_bad, piece_short, checking_start, checking_wrong, checking_more, checking_last, line_on}
 use Rattle.typed_plan.proofs.plans.check.Goals as goal
 
 pub loop-command-init : goal.loop-command-init
@@ -23,7 +23,7 @@ overflow_add-size c =
 
 pub returns-then-end-text : goal.returns-then-end-text
 returns-then-end-text c =
-    checking_last _ _ _ _ _ _ c.loop-command.invariant c.find-end.ensures c.read_line-typed.ensures c.in_default.keys2 _
+    checking_last _ _ _ _ _ _ c.loop-command.invariant c.find-end.ensures c.read_line-typed.ensures (not_bad _ c.in_default.not-Bad) _
     c.command_size-size.ensures c.if-end-text.true
 
 pub overflow_add-at : goal.overflow_add-at
@@ -38,5 +38,5 @@ loop-command-smaller c =
 
 pub loop-command-preserved : goal.loop-command-preserved
 loop-command-preserved c =
-    checking_more _ _ _ _ _ _ c.loop-command.invariant c.find-end.ensures c.read_line-typed.ensures c.in_default.keys2 _
+    checking_more _ _ _ _ _ _ c.loop-command.invariant c.find-end.ensures c.read_line-typed.ensures (not_bad _ c.in_default.not-Bad) _
     c.command_size-size.ensures (omega (arith, c.find-end.ensures.within))
