@@ -5,8 +5,10 @@ use Rattle.rehearsal.specs.Desk.{SomeTyped}
 use Rattle.rehearse.proofs.answer_input.Given as goal
 
 abbrev pub invariant-loop-reads : goal.invariant-loop-reads
-invariant-loop-reads l =     (1024 ≡ length l.counters) × (length l.initial.reads ≡ length l.initial.space) × (length l.space ≡ length l.initial.counters)
-    × SomeTyped (record { bytes = l.initial.bytes; space = l.initial.counters }) l.initial.space l.initial.site (record { bytes = l.bytes; space = l.space }) l.initial.reads l.site
+invariant-loop-reads l =
+    (1024 ≡ length l.bytes) × (length l.space ≡ length l.initial.space) × (length l.counters ≡ length l.initial.counters)
+    × SomeTyped (record { site = l.initial.site; counters = l.initial.counters }) l.initial.space l.initial.kept
+    (record { site = l.site; counters = l.counters }) l.space l.kept
 
 abbrev pub decreases-loop-reads : goal.decreases-loop-reads
-decreases-loop-reads l = l.kept
+decreases-loop-reads l = l.reads
