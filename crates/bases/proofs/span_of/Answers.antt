@@ -1,4 +1,4 @@
-use Prim.Native.Nat.{◌-◌, min, max}
+use Prim.Native.Nat.{min, max}
 use mathlib.Core.Path.{◌≡◌}
 use lib.ListN.{get_or}
 use native.Mathlib.Omega.{arith}

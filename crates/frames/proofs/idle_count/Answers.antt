@@ -1,6 +1,4 @@
-use Prim.Native.Nat.{◌-◌}
 use mathlib.Core.Path.{sym, ◌∙◌}
-use mathlib.Core.Logic.{inl, inr}
 use native.Mathlib.Omega.{arith}
 use Rattle.frames.specs.Marks.{idle_count}
 use Rattle.frames.proofs.Laws.Slots.{counted_start, counted_more, counted_same, counted_end}

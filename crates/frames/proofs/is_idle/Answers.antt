@@ -1,7 +1,5 @@
 use borrow.Author.Rules.{rules}
-use Prim.Native.Nat.{◌-◌}
 use mathlib.Core.Path.{sym, ◌∙◌}
-use mathlib.Core.Logic.{inl, inr}
 use Rattle.report_lines.proofs.Laws.Lines.{links_few}
 use Rattle.frames.proofs.Laws.Slots.{silent_start, silent_met, silent_child, silent_other, silent_end}
 use Rattle.frames.proofs.is_idle.Goals as goal

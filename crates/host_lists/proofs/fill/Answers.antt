@@ -1,5 +1,4 @@
 use borrow.Author.Rules.{rules}
-use Prim.Native.Nat.{◌-◌}
 use mathlib.Core.Path.{refl, ◌∙◌}
 use mathlib.Core.List.{map-id}
 use Rattle.lists.proofs.Laws.Lists.{filled_start, filled_more, filled_end}

@@ -5,7 +5,7 @@ use Rattle.reservations.proofs.Laws.Reservations.{Summing}
 use Rattle.link_loads.proofs.add_widths.Given as goal
 
 abbrev pub invariant-loop-node : goal.invariant-loop-node
-invariant-loop-node l =     Carrying l.periods l.parents l.rate l.entry l.initial.loads l.loads l.node × Summing l.periods l.parents l.entry l.sum l.node
+invariant-loop-node l = Carrying l.periods l.parents l.rate l.entry l.initial.loads l.loads l.node × Summing l.periods l.parents l.entry l.sum l.node
 
 abbrev pub decreases-loop-node : goal.decreases-loop-node
 decreases-loop-node l = l.node

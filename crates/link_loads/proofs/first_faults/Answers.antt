@@ -1,9 +1,7 @@
-use Prim.Native.Nat.{◌-◌}
 use mathlib.Core.Path.{sym, ◌∙◌}
 use native.Mathlib.Nat.{sub-zero}
 use native.Mathlib.Omega.{arith}
 use Rattle.lists.proofs.Laws.Search.{first_hit, first_miss, first_end}
-use Rattle.site.specs.declared.Site.{Site}
 use Rattle.site.specs.Sites.{used, of_lists}
 use Rattle.reservations.specs.Reservations.{first_over}
 use Rattle.reservations.proofs.Laws.Reservations.{load_in, over_yes, over_no}
@@ -19,15 +17,14 @@ loop-i-init c =
     )
 
 pub loop-i-preserved : goal.loop-i-preserved
-loop-i-preserved c =
-    (
-      c.loop-i.invariant.0,
-      omega arith,
-      λ s. let held = c.loop-i.invariant.2 s in (
-        held.0,
-        held.1 ∙ first_miss _ _ _ (omega arith) (over_no _ _ _ _ c.value_of-capacity.ensures (load_in _ _ held.0.sums _ (omega arith)) (omega arith)),
-      ),
-    )
+loop-i-preserved c = (
+  c.loop-i.invariant.0,
+  omega arith,
+  λ s. let held = c.loop-i.invariant.2 s in (
+    held.0,
+    held.1 ∙ first_miss _ _ _ (omega arith) (over_no _ _ _ _ c.value_of-capacity.ensures (load_in _ _ held.0.sums _ (omega arith)) (omega arith)),
+  ),
+)
 
 pub returns-after-loop-i : goal.returns-after-loop-i
 returns-after-loop-i c = λ s.

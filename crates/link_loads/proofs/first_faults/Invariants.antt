@@ -9,7 +9,7 @@ use Rattle.reservations.specs.Inner.{ReservedAs}
 use Rattle.link_loads.proofs.first_faults.Given as goal
 
 abbrev pub invariant-loop-i : goal.invariant-loop-i
-invariant-loop-i l =     (l.count ≤ 63) × (l.i ≤ l.count) × ((s : Site)
+invariant-loop-i l = (l.count ≤ 63) × (l.i ≤ l.count) × ((s : Site)
     → ReservedAs (of_lists l.links l.parents l.capacities s.gaps s.offsets l.periods l.states l.entries l.rates l.deadlines) l.sums l.late
     × (first_over (of_lists l.links l.parents l.capacities s.gaps s.offsets l.periods l.states l.entries l.rates l.deadlines)
     ≡ first_in (over (of_lists l.links l.parents l.capacities s.gaps s.offsets l.periods l.states l.entries l.rates l.deadlines)) l.count l.i))

@@ -42,10 +42,9 @@ returns-then-capacity-load-2 c =
     ∙ c.loop-link.invariant.1
 
 pub loop-link-preserved : goal.loop-link-preserved
-loop-link-preserved c =
-    (
-      omega (arith, c.loop-link.invariant.0),
-      full_next _ _ _ _ _ _ _ c.parent_of-parent.ensures (omega arith) _ _ _ c.value_of-capacity.ensures refl c.value_of.ensures
-          (omega arith)
-          ∙ c.loop-link.invariant.1,
-    )
+loop-link-preserved c = (
+  omega (arith, c.loop-link.invariant.0),
+  full_next _ _ _ _ _ _ _ c.parent_of-parent.ensures (omega arith) _ _ _ c.value_of-capacity.ensures refl c.value_of.ensures
+      (omega arith)
+      ∙ c.loop-link.invariant.1,
+)

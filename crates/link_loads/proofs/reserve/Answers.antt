@@ -2,10 +2,8 @@ use borrow.Author.Rules.{rules}
 use borrow.Author.Tests.{eq-eqb, ne_eqb}
 use Prim.Native.Nat.{◌-◌, ◌<◌}
 use mathlib.Core.Path.{◌∙◌}
-use mathlib.Core.Logic.{inl, inr}
 use native.Mathlib.Omega.{arith}
 use Rattle.lists.proofs.Laws.Listed.{get_or_replicated}
-use Rattle.site.specs.declared.Site.{Site}
 use Rattle.site.specs.Sites.{empty_site, live, of_lists}
 use Rattle.site.proofs.Laws.Flows.{left_start, left_live, left_idle, left_more, none_left}
 use Rattle.reservations.specs.Reservations.{periods_judged}

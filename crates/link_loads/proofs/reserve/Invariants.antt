@@ -10,7 +10,7 @@ use Rattle.reservations.proofs.Laws.Reservations.{Judging}
 use Rattle.link_loads.proofs.reserve.Given as goal
 
 abbrev pub invariant-loop-left : goal.invariant-loop-left
-invariant-loop-left l =     (l.n ≤ 64) × (length l.loads ≡ 63) × ((i : ℕ) → get_or l.loads i 0 ≤ l.n * 16711425)
+invariant-loop-left l = (l.n ≤ 64) × (length l.loads ≡ 63) × ((i : ℕ) → get_or l.loads i 0 ≤ l.n * 16711425)
     × ((s : Site) → Left (of_lists s.links l.parents s.capacities s.gaps s.offsets l.periods l.states l.entries l.rates l.deadlines) l.n l.left
     × Judging (of_lists s.links l.parents s.capacities s.gaps s.offsets l.periods l.states l.entries l.rates l.deadlines) l.n l.loads l.late)
 

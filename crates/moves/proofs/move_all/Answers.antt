@@ -1,7 +1,6 @@
 use borrow.Author.Rules.{rules}
 use borrow.Author.Tests.{ne_eqb}
-use Prim.Native.Nat.{◌-◌, ◌<◌}
-use mathlib.Core.Logic.{inl, inr}
+use Prim.Native.Nat.{◌<◌}
 use native.Mathlib.Omega.{arith}
 use Rattle.site.specs.Sites.{empty_site, live}
 use Rattle.site.proofs.Laws.Flows.{left_start, left_live, left_idle, left_more, none_left}

@@ -9,7 +9,7 @@ use Rattle.moves.proofs.Laws.Moves.{Kept, Stepped}
 use Rattle.moves.proofs.move_all.Given as goal
 
 abbrev pub invariant-loop-left : goal.invariant-loop-left
-invariant-loop-left l =     Kept l.initial.counters l.counters l.n × ((s : Site) → Left (with_states s l.states) l.n l.left)
+invariant-loop-left l = Kept l.initial.counters l.counters l.n × ((s : Site) → Left (with_states s l.states) l.n l.left)
     × ((s : Site) (t : ℕ) → PeriodsIn (with_routes s l.parents l.states l.entries l.rates) t l.sending
     → Stepped (with_routes s l.parents l.states l.entries l.rates) t l.initial.counters l.arrivals l.counters l.n)
 

@@ -5,7 +5,7 @@ use Rattle.moves.proofs.Laws.Moves.{onward, Moving}
 use Rattle.moves.proofs.move_packets.Given as goal
 
 abbrev pub invariant-loop-k : goal.invariant-loop-k
-invariant-loop-k l =     Moving (in_slot l.sending l.rate) l.parents 0 (onward (hops_in l.parents l.sending l.rate l.initial.node) 0 0 0 l.initial.cells) l.cells l.coming l.k l.node
+invariant-loop-k l = Moving (in_slot l.sending l.rate) l.parents 0 (onward (hops_in l.parents l.sending l.rate l.initial.node) 0 0 0 l.initial.cells) l.cells l.coming l.k l.node
 
 abbrev pub decreases-loop-k : goal.decreases-loop-k
 decreases-loop-k l = l.node

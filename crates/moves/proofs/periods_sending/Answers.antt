@@ -1,5 +1,4 @@
-use Prim.Native.Nat.{◌-◌, ◌<◌}
-use mathlib.Core.Logic.{inl, inr}
+use Prim.Native.Nat.{◌<◌}
 use native.Mathlib.Omega.{arith}
 use Rattle.site.specs.Sites.{used, empty_site}
 use Rattle.reservations.specs.Reservations.{periods_judged}

@@ -1,4 +1,3 @@
-use Prim.Native.Nat.{◌-◌}
 use native.Mathlib.Omega.{arith}
 use Rattle.plan_listing.specs.Listing.{node_typed}
 use Rattle.report_lines.proofs.Laws.Lines.{printed_start, printed_more, printed_all, printed_long, links_few}

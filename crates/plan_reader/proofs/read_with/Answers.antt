@@ -1,5 +1,5 @@
 use borrow.Author.Rules.{rules}
-use Prim.Native.Nat.{ℕ, ◌+◌, ◌-◌, ◌<◌}
+use Prim.Native.Nat.{ℕ, ◌+◌, ◌<◌}
 use mathlib.Core.Path.{◌≡◌, refl, sym, ◌∙◌, ap}
 use mathlib.Core.List.{List}
 use lib.ListN.{length}
@@ -29,12 +29,11 @@ loop-at-init c = (refl, rw c.empty-site.ensures (sym (decode_start _)))
 
 pub returns-then-more_behind : goal.returns-then-more_behind
 unfolding read_of judge_form
-returns-then-more_behind c =
-    (
-      c.refusal.ensures ∙ ap judged (end_more _ _ (reading c.loop-at.site c.loop-at.next) _ c.more_behind.ensures c.if-more_behind.true
-          ∙ sym (read_end plans _ _ _ (omega arith) c.if-bytes-at.true) ∙ c.loop-at.invariant.1),
-      c.loop-at.invariant.0 ∙ refused_keeps c.refusal.result _ _ c.refusal.ensures _,
-    )
+returns-then-more_behind c = (
+  c.refusal.ensures ∙ ap judged (end_more _ _ (reading c.loop-at.site c.loop-at.next) _ c.more_behind.ensures c.if-more_behind.true
+      ∙ sym (read_end plans _ _ _ (omega arith) c.if-bytes-at.true) ∙ c.loop-at.invariant.1),
+  c.loop-at.invariant.0 ∙ refused_keeps c.refusal.result _ _ c.refusal.ensures _,
+)
 
 pub returns-in-Accepted : goal.returns-in-Accepted
 unfolding with_schedule read_of judge_form
@@ -62,8 +61,7 @@ returns-in-Refused c =
 pub returns-then-fault-ne0 : goal.returns-then-fault-ne0
 unfolding read_of judge_form
 returns-then-fault-ne0 c =
-    let is = c.fault_at-fault.ensures _ (known _ _) ∙ fault_at_command _ _ _ (omega arith) in
-    (
+    let is = c.fault_at-fault.ensures _ (known _ _) ∙ fault_at_command _ _ _ (omega arith) in (
       c.refusal-then-fault-ne0.ensures ∙ ap judged (ap (λ (r : ℕ). refused r c.loop-at.at) is
           ∙ sym (read_stop plans _ _ _ (omega arith) c.if-bytes-at.false (λ z. c.if-fault-ne0.true (is ∙ z))) ∙ c.loop-at.invariant.1),
       c.loop-at.invariant.0 ∙ refused_keeps c.refusal-then-fault-ne0.result _ _ c.refusal-then-fault-ne0.ensures _,
@@ -128,8 +126,7 @@ pub loop-at-preserved-then-bytes-at-eq1 : goal.loop-at-preserved-then-bytes-at-e
 unfolding node_added with_node
 loop-at-preserved-then-bytes-at-eq1 c =
     let none : fault c.args.bytes.now c.loop-at.at (reading c.loop-at.site c.loop-at.next) ≡ 0 = sym (c.fault_at-fault.ensures _ (known _ _) ∙ fault_at_command _ _ _ (omega arith)) ∙ c.if-fault-ne0.false in
-    let within : c.loop-at.at + 5 < length c.args.bytes.now = none_within _ _ _ none in
-    (
+    let within : c.loop-at.at + 5 < length c.args.bytes.now = none_within _ _ _ none in (
       c.loop-at.invariant.0,
       decode_node _ _ _ (omega arith) c.if-bytes-at.false none c.if-bytes-at-eq1.true _
           (c.node_at-node.ensures ∙ node_whole _ _ within) _ c.size-at.ensures c.loop-at.invariant.1,
@@ -201,8 +198,7 @@ pub loop-at-preserved : goal.loop-at-preserved
 unfolding flow_added with_flow
 loop-at-preserved c =
     let none : fault c.args.bytes.now c.loop-at.at (reading c.loop-at.site c.loop-at.next) ≡ 0 = sym (c.fault_at-fault.ensures _ (known _ _) ∙ fault_at_command _ _ _ (omega arith)) ∙ c.if-fault-ne0.false in
-    let within : c.loop-at.at + 5 < length c.args.bytes.now = none_within _ _ _ none in
-    (
+    let within : c.loop-at.at + 5 < length c.args.bytes.now = none_within _ _ _ none in (
       c.loop-at.invariant.0,
       decode_flow _ _ _ (omega arith) c.if-bytes-at.false none c.if-bytes-at-eq1.false _
           (c.flow_at-flow.ensures ∙ flow_whole _ _ within) _ c.size-at-else-bytes-at-eq1.ensures c.loop-at.invariant.1,

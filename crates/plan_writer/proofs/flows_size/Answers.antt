@@ -1,6 +1,4 @@
-use Prim.Native.Nat.{◌-◌}
 use mathlib.Core.Path.{◌∙◌}
-use mathlib.Core.Logic.{inl, inr}
 use native.Mathlib.Omega.{arith}
 use Rattle.slices.proofs.Laws.Stores.{passed_start, passed_end}
 use Rattle.plan_writer.proofs.Laws.Write.{live_room, passed_live, passed_idle, flows_few}

@@ -1,7 +1,5 @@
 use borrow.Author.Rules.{rules}
 use borrow.Author.Tests.{not-true, not-false}
-use mathlib.Core.Logic.{inl, inr}
-use Prim.Native.Nat.{◌-◌}
 use mathlib.Core.Path.{refl, sym, ◌∙◌}
 use Rattle.rehearsal.proofs.Laws.Typing.{taking_none, taking_line, taking_byte, taken_all, taken_full}
 use Rattle.std.proofs.lemmas.Bool.{not_from_true, not_from_false}

@@ -1,5 +1,4 @@
 -- Right because no more bytes are taken than the text has, and these are put where the slice has room for them; it stays where it has not.
-use mathlib.Core.Logic.{inl, inr}
 use native.Mathlib.Omega.{arith}
 use Rattle.report_lines.proofs.Laws.Deliver.{Front, front_all, front_part, short_written, room_written}
 use Rattle.report_lines.proofs.deliver.Goals as goal

@@ -1,14 +1,11 @@
 use borrow.Author.Rules.{rules}
-use Prim.Native.Nat.{ℕ, ◌-◌}
+use Prim.Native.Nat.{ℕ}
 use mathlib.Core.List.{List}
 use mathlib.Core.Path.{sym}
-use lib.ListN.{get_or}
 use native.Mathlib.Omega.{arith}
 use Rattle.site.specs.declared.Site.{Site}
 use Rattle.site.specs.Sites.{empty_site, of_lists, used}
-use Rattle.schedule.specs.Schedule.{gaps_under}
-use Rattle.schedule.specs.Inner.{Chain, GapsOf, AssignedTo}
-use Rattle.schedule.proofs.Laws.Schedule.{chained_rising, chained_chain, gathered_all, Assigning, assigning_start, assigning_none, assigning_more}
+use Rattle.schedule.proofs.Laws.Schedule.{chained_rising, chained_chain, gathered_all, assigning_start, assigning_none, assigning_more}
 use Rattle.schedule.proofs.Laws.Schedule.{assigning_crowded, assigning_end}
 use Rattle.schedule.proofs.assign_all.Goals as goal
 
@@ -79,8 +76,7 @@ spread-requires c =
     let here = c.loop-p.invariant.2 empty_site in
     let chain = chained_chain _ _ _ _ here.chained _ (omega (arith, here.most, here.links)) in
     let gathered = gathered_all (lent c.args.links c.args.parents.now c.args.gaps.now empty_site) _ _ _ _ here.all (c.gaps_under-n.ensures _ _ chain) in
-    let assigned = c.assign_to-base.ensures _ _ gathered in
-    (
+    let assigned = c.assign_to-base.ensures _ _ gathered in (
       omega (arith, c.if-count-child.false),
       here.links,
       chained_rising _ _ _ _ here.chained,
@@ -94,8 +90,7 @@ pub loop-p-preserved : goal.loop-p-preserved
 loop-p-preserved c =
     let here = c.loop-p.invariant.2 empty_site in
     let chain = chained_chain _ _ _ _ here.chained _ (omega (arith, here.most, here.links)) in
-    let gathered = gathered_all (lent c.args.links c.args.parents.now c.args.gaps.now empty_site) _ _ _ _ here.all (c.gaps_under-n.ensures _ _ chain) in
-    (
+    let gathered = gathered_all (lent c.args.links c.args.parents.now c.args.gaps.now empty_site) _ _ _ _ here.all (c.gaps_under-n.ensures _ _ chain) in (
       gathered.long,
       c.loop-p.invariant.1,
       λ s.

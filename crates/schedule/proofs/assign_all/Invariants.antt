@@ -9,7 +9,7 @@ use Rattle.schedule.proofs.Laws.Schedule.{Assigning}
 use Rattle.schedule.proofs.assign_all.Given as goal
 
 abbrev pub invariant-loop-p : goal.invariant-loop-p
-invariant-loop-p l =     (length l.wanted ≡ 63) × (l.count ≤ 63)
+invariant-loop-p l = (length l.wanted ≡ 63) × (l.count ≤ 63)
     × ((s : Site) → Assigning (of_lists l.links l.parents s.capacities l.gaps s.offsets s.periods s.states s.entries s.rates s.deadlines)
     l.count l.chains.first l.chains.next l.p l.offsets l.periods)
 

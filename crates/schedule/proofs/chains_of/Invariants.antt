@@ -1,5 +1,4 @@
 -- Right because `Chained` holds of the links from i on; i falls.
-use Prim.Native.Nat.{◌-◌}
 use Rattle.schedule.specs.Inner.{Chained}
 use Rattle.schedule.proofs.chains_of.Given as goal
 

@@ -8,7 +8,7 @@ use Rattle.schedule.proofs.Laws.Schedule.{Gathering}
 use Rattle.schedule.proofs.gaps_under.Given as goal
 
 abbrev pub invariant-loop-i : goal.invariant-loop-i
-invariant-loop-i l =     (l.i ≤ l.links) × (l.count ≤ l.i) × (length l.wanted ≡ 63)
+invariant-loop-i l = (l.i ≤ l.links) × (l.count ≤ l.i) × (length l.wanted ≡ 63)
     × ((parents : List ℕ) (p : ℕ) → Chain parents l.next l.links p l.child → Gathering parents l.gaps l.links p l.i l.count l.wanted)
 
 abbrev pub decreases-loop-i : goal.decreases-loop-i

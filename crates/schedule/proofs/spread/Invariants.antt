@@ -8,7 +8,7 @@ use Rattle.schedule.proofs.Laws.Schedule.{Handing}
 use Rattle.schedule.proofs.spread.Given as goal
 
 abbrev pub invariant-loop-i : goal.invariant-loop-i
-invariant-loop-i l =     (l.i ≤ l.links) × (l.k ≤ l.i) × (length l.offsets ≡ 63) × (length l.periods ≡ 63)
+invariant-loop-i l = (l.i ≤ l.links) × (l.k ≤ l.i) × (length l.offsets ≡ 63) × (length l.periods ≡ 63)
     × ((parents : List ℕ) (p : ℕ) → Chain parents l.next l.links p l.child
     → Handing parents l.links p l.i l.k l.os l.initial.offsets l.offsets × Handing parents l.links p l.i l.k l.ps l.initial.periods l.periods)
 

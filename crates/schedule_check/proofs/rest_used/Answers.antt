@@ -1,6 +1,4 @@
-use Prim.Native.Nat.{◌-◌}
 use mathlib.Core.Path.{refl, sym, ◌∙◌}
-use mathlib.Core.Logic.{inl, inr}
 use native.Mathlib.Omega.{arith}
 use Rattle.schedule_check.proofs.Laws.Check.{seen_hit, seen_miss, seen_end}
 use Rattle.schedule_check.proofs.rest_used.Goals as goal
@@ -11,9 +9,9 @@ loop-i-init c = record { are = refl }
 
 pub loop-i-preserved : goal.loop-i-preserved
 loop-i-preserved c = elim c.if-in_use.branch [
-      | then-in_use w ↦ rw w.used-is (seen_hit _ _ _ _ _ c.loop-i.invariant (omega arith) (sym c.in_use.ensures ∙ w.if-in_use.true))
-      | else-in_use w ↦ rw w.used-is (seen_miss _ _ _ _ _ c.loop-i.invariant (omega arith) (sym c.in_use.ensures ∙ w.if-in_use.false))
-    ]
+  | then-in_use w ↦ rw w.used-is (seen_hit _ _ _ _ _ c.loop-i.invariant (omega arith) (sym c.in_use.ensures ∙ w.if-in_use.true))
+  | else-in_use w ↦ rw w.used-is (seen_miss _ _ _ _ _ c.loop-i.invariant (omega arith) (sym c.in_use.ensures ∙ w.if-in_use.false))
+]
 
 pub returns : goal.returns
 returns c = seen_end _ _ _ _ _ c.loop-i.invariant (omega arith)

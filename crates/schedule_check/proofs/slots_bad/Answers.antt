@@ -1,7 +1,6 @@
 use Prim.Native.Nat.{◌-◌}
 use mathlib.Core.Path.{◌≡◌}
 use mathlib.Core.Bool.{or-true}
-use mathlib.Core.Logic.{inl, inr}
 use native.Mathlib.Omega.{arith}
 use Rattle.schedule_check.proofs.Laws.Check.{seen_hit, seen_miss, seen_end}
 use Rattle.schedule_check.proofs.Laws.Slots.{slots_many, slots_late, slots_well}

@@ -1,6 +1,5 @@
 -- Right because check 14 of the schedule comes before the writing, which judges the slice; what passes it has lists of 63 entries.
 use mathlib.Core.Path.{sym, ◌∙◌}
-use borrow.Author.Tests.{not-false}
 use Rattle.schedule_check.specs.Schedules.{of_lists}
 use Rattle.schedule_check.specs.Words.{Listed}
 use Rattle.schedule_check.proofs.Laws.{passes_listed}

@@ -1,5 +1,4 @@
 use borrow.Author.Rules.{rules}
-use mathlib.Core.Logic.{inl, inr}
 use native.Mathlib.Omega.{arith}
 use Rattle.site.specs.Sites.{used}
 use Rattle.sender.proofs.Laws.Answers.{look_start, look_end, look_other, look_here, look_silent}

@@ -1,4 +1,3 @@
-use Prim.Native.Nat.{◌-◌}
 use native.Mathlib.Omega.{arith}
 use Rattle.site.proofs.Laws.Flows.{counted_start, counted_live, counted_idle, counted_end}
 use Rattle.site.proofs.live_count.Goals as goal

@@ -1,5 +1,4 @@
 use borrow.Author.Rules.{rules}
-use Prim.Native.Nat.{◌-◌}
 use mathlib.Core.Path.{sym, ◌∙◌}
 use Rattle.lists.proofs.Laws.Search.{first_hit, first_miss, first_end}
 use Rattle.site_check.specs.Check.{flow_of, ill_flow, first_ill_flow}

@@ -1,5 +1,4 @@
 use borrow.Author.Rules.{rules}
-use Prim.Native.Nat.{◌-◌}
 use native.Mathlib.Omega.{arith}
 use Rattle.lists.proofs.Laws.Equal.{unlike_length, unlike_at, alike_more, alike_end}
 use Rattle.slices.proofs.same.Goals as goal

@@ -1,4 +1,3 @@
-use Prim.Native.Nat.{◌-◌}
 use native.Mathlib.Omega.{arith}
 use Rattle.slices.proofs.Laws.Put.{pasted_start, pasted_long, pasted_more, pasted_end}
 use Rattle.slices.proofs.store.Goals as goal

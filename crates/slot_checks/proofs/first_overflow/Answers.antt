@@ -1,8 +1,7 @@
 use borrow.Author.Rules.{rules}
 use borrow.Author.Count.{below_more}
-use Prim.Native.Nat.{◌-◌, ◌<◌}
+use Prim.Native.Nat.{◌<◌}
 use mathlib.Core.Path.{sym}
-use mathlib.Core.Logic.{inl, inr}
 use lib.ListN.{length-take}
 use native.Mathlib.Omega.{arith}
 use Rattle.lists.proofs.Laws.Search.{first_is}

@@ -1,6 +1,4 @@
-use Prim.Native.Nat.{◌-◌}
 use mathlib.Core.Path.{refl, sym, ◌∙◌}
-use mathlib.Core.Logic.{inl, inr}
 use native.Mathlib.Omega.{arith}
 use Rattle.lists.proofs.Laws.Search.{first_hit, first_miss, first_end}
 use Rattle.slot_checks.specs.Checks.{first_unexpected}

@@ -1,4 +1,4 @@
-use Prim.Native.Nat.{◌-◌, ◌<◌}
+use Prim.Native.Nat.{◌<◌}
 use native.Mathlib.Omega.{arith}
 use Rattle.testlib_text.proofs.Laws.Lines.{pair_after}
 use Rattle.test_calls.proofs.arrivals_of.Goals as goal

@@ -1,4 +1,3 @@
-use Prim.Native.Nat.{◌-◌}
 use Rattle.testlib_text.proofs.Laws.Lines.{change_less}
 use Rattle.test_schedules.proofs.altered.Goals as goal
 

@@ -1,4 +1,3 @@
-use Prim.Native.Nat.{◌-◌}
 use Rattle.testlib_text.proofs.Laws.Lines.{change_less}
 use Rattle.testlib_sites.proofs.Laws.{altering_start, altering_more, altering_end}
 use Rattle.testlib_sites.proofs.altered.Goals as goal

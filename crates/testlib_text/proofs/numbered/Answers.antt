@@ -1,4 +1,3 @@
-use Prim.Native.Nat.{◌-◌}
 use Rattle.testlib_text.proofs.Laws.Marks.{marked_start, marked_more, marked_end}
 use Rattle.testlib_text.proofs.numbered.Goals as goal
 

@@ -1,4 +1,3 @@
-use Prim.Native.Nat.{◌-◌}
 use Rattle.testlib_text.proofs.Laws.Hex.{parsed_start, parsed_long, parsed_end, parsed_passed, parsed_first, parsed_second}
 use Rattle.testlib_text.proofs.parse_hex.Goals as goal
 

@@ -1,4 +1,3 @@
-use Prim.Native.Nat.{◌-◌}
 use mathlib.Core.Path.{refl, sym, ◌∙◌}
 use Rattle.lists.proofs.Laws.Search.{first_hit, first_miss, first_end}
 use Rattle.testlib_text.specs.Lines.{scanned}

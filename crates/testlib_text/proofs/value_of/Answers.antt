@@ -1,4 +1,4 @@
-use Prim.Native.Nat.{◌-◌, ◌≤◌}
+use Prim.Native.Nat.{◌≤◌}
 use native.Mathlib.Omega.{arith}
 use Rattle.testlib_text.proofs.Laws.Lines.{saying_start, saying_more, saying_small, saying_ten, saying_end}
 use Rattle.testlib_text.proofs.value_of.Goals as goal

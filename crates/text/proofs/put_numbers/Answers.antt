@@ -1,4 +1,3 @@
-use Prim.Native.Nat.{◌-◌}
 use native.Mathlib.Omega.{arith}
 use Rattle.text.proofs.Laws.Listed.{left_start, left_more, left_end, left_long}
 use Rattle.text.proofs.put_numbers.Goals as goal

@@ -1,5 +1,3 @@
-use Prim.Native.Nat.{◌-◌}
-use mathlib.Core.Logic.{inl, inr}
 use native.Mathlib.Omega.{arith}
 use Rattle.chart.proofs.flows.print_flows.Goals as goal
 use Rattle.chart.proofs.flows.print_flows.Goals.{else-site-n-eq1, then-site-n-eq1}

@@ -1,6 +1,4 @@
 use borrow.Author.Rules.{rules}
-use Prim.Native.Nat.{◌-◌}
-use mathlib.Core.Logic.{inl, inr}
 use native.Mathlib.Omega.{arith}
 use Rattle.report_lines.proofs.Laws.Lines.{links_few}
 use Rattle.chart.proofs.panels.print_links.Goals as goal

@@ -1,4 +1,3 @@
-use Prim.Native.Nat.{◌-◌}
 use native.Mathlib.Omega.{arith}
 use Rattle.report_lines.proofs.Laws.Lines.{links_few}
 use Rattle.chart.proofs.panels.print_panels.Goals as goal

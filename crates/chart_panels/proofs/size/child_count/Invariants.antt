@@ -8,7 +8,7 @@ use Rattle.frames.proofs.Laws.Slots.{Counted}
 use Rattle.chart_panels.proofs.size.child_count.Given as goal
 
 abbrev pub invariant-loop-i : goal.invariant-loop-i
-invariant-loop-i l =     (l.links ≤ 63) × (l.links ≡ used l.site.links) × (l.i ≤ l.links) × Counted (λ k. eqb (get_or l.site.parents k 0) l.parent) l.i l.count
+invariant-loop-i l = (l.links ≤ 63) × (l.links ≡ used l.site.links) × (l.i ≤ l.links) × Counted (λ k. eqb (get_or l.site.parents k 0) l.parent) l.i l.count
 
 abbrev pub decreases-loop-i : goal.decreases-loop-i
 decreases-loop-i l = l.links - l.i

@@ -1,5 +1,3 @@
-use Prim.Native.Nat.{◌-◌}
-use mathlib.Core.Logic.{inl, inr}
 use native.Mathlib.Omega.{arith}
 use Rattle.report_lines.proofs.Laws.Lines.{printed_start, printed_line, printed_none, printed_all, printed_long}
 use Rattle.chart_rows.proofs.Laws.Scale.{width_fits, step_fits}

@@ -1,4 +1,3 @@
-use Prim.Native.Nat.{◌-◌}
 use mathlib.Core.Path.{refl, ◌∙◌}
 use native.Mathlib.Omega.{arith}
 use Rattle.pinwheel.proofs.Laws.Turns.{upto_start, upto_ready, upto_next, upto_end}

@@ -1,5 +1,4 @@
-use Prim.Native.Nat.{◌-◌, ◌<◌}
-use mathlib.Core.Logic.{inl, inr}
+use Prim.Native.Nat.{◌<◌}
 use native.Mathlib.Omega.{arith}
 use Rattle.pinwheel.proofs.Laws.Turns.{assigning_start, assigning_pass, assigning_place, assigning_found, assigning_turn, assigning_end}
 use Rattle.pinwheel.proofs.offsets.fill_level.Goals as goal

@@ -1,5 +1,4 @@
 use borrow.Author.Rules.{rules}
-use Prim.Native.Nat.{◌-◌}
 use mathlib.Core.Path.{◌∙◌}
 use Rattle.lists.proofs.Laws.Lists.{filled_start, filled_more, filled_end}
 use Rattle.bases.proofs.Laws.{period_asked}

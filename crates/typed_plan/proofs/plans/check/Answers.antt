@@ -1,4 +1,3 @@
-use Prim.Native.Nat.{◌-◌}
 use native.Mathlib.Omega.{arith}
 use Rattle.typed_plan.proofs.Laws.Plans.{not_bad, piece_short, checking_start, checking_wrong, checking_more, checking_last, line_on}
 use Rattle.typed_plan.proofs.plans.check.Goals as goal

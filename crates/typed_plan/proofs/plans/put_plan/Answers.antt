@@ -1,4 +1,3 @@
-use Prim.Native.Nat.{◌-◌}
 use native.Mathlib.Omega.{arith}
 use Rattle.typed_plan.proofs.Laws.Plans.{putting_start, putting_more, putting_last, put_long, line_on}
 use Rattle.typed_plan.proofs.plans.put_plan.Goals as goal
