@@ -292,7 +292,10 @@ pub fn compare_random(count: u64, seed: u64, folder: &Path) -> u8 {
     let missing = comparison.missing();
     for program in &missing {
         let name = program.file_name().unwrap_or_default().to_string_lossy();
-        println!("no {}: `rt check {name}` builds it", program.display());
+        println!(
+            "no {}: `tools/programs.sh {name}` builds it",
+            program.display()
+        );
     }
     if !missing.is_empty() {
         return 2;

@@ -10,14 +10,16 @@ use crate::statements::sources::{read_text, sources};
 use checks::{check, Checked, Refused};
 use std::fs;
 use std::path::{Path, PathBuf};
-use std::process::Command;
 use std::time::Instant;
-use texts::{alone, crates_below, laws, weaken_promise, weaken_proof, with_fewer_uses, Law};
+use texts::{alone, crates_below, laws, weaken_answers, weaken_promise, with_fewer_uses, Law};
 
 /// The crates whose laws read contracts.
 const READERS: [&str; 2] = ["contracts", "slotplan_lib"];
 
 const LISTED: &str = "crates.txt";
+
+/// The folders of a crate that rt reads.
+const READ: [&str; 3] = ["src", "specs", "proofs"];
 
 fn in_words(path: &Path) -> impl Fn(std::io::Error) -> String + '_ {
     move |error| format!("{}: {error}", path.display())
@@ -25,6 +27,28 @@ fn in_words(path: &Path) -> impl Fn(std::io::Error) -> String + '_ {
 
 fn write(path: &Path, text: &str) -> Result<(), String> {
     fs::write(path, text).map_err(in_words(path))
+}
+
+fn copy_file(from: &Path, to: &Path) -> Result<(), String> {
+    fs::copy(from, to).map(|_| ()).map_err(in_words(from))
+}
+
+/// With all that is below. A folder that is missing has nothing.
+fn copy_folder(from: &Path, to: &Path) -> Result<(), String> {
+    if !from.is_dir() {
+        return Ok(());
+    }
+    fs::create_dir_all(to).map_err(in_words(to))?;
+    for entry in fs::read_dir(from).map_err(in_words(from))? {
+        let entry = entry.map_err(in_words(from))?;
+        let (path, to) = (entry.path(), to.join(entry.file_name()));
+        if path.is_dir() {
+            copy_folder(&path, &to)?;
+        } else {
+            copy_file(&path, &to)?;
+        }
+    }
+    Ok(())
 }
 
 /// Copies of the repository in a temporary folder that is gone at the end.
@@ -38,23 +62,21 @@ impl Copies {
         Ok(Copies(folder))
     }
 
-    /// What rt reads and has proved of the repository at `top`, under this name and anew.
+    /// What rt reads of the repository at `top`, under this name and anew. What was proved there or in another copy, rt takes from there.
     fn copy(&self, top: &Path, name: &str) -> Result<PathBuf, String> {
         let folder = self.0.join(name);
         if folder.exists() {
             fs::remove_dir_all(&folder).map_err(in_words(&folder))?;
         }
-        fs::create_dir_all(&folder).map_err(in_words(&folder))?;
-        let parts = ["crates", LISTED, "target"].map(|part| top.join(part));
-        let copied = Command::new("cp")
-            .arg("-a")
-            .args(parts.iter().filter(|part| part.exists()))
-            .arg(&folder)
-            .status()
-            .map_err(|error| format!("cp: {error}"))?;
-        if !copied.success() {
-            return Err(format!("cp ended with {copied}"));
+        let crates = top.join("crates");
+        for owner in fs::read_dir(&crates).map_err(in_words(&crates))? {
+            let owner = owner.map_err(in_words(&crates))?;
+            let to = folder.join("crates").join(owner.file_name());
+            for part in READ {
+                copy_folder(&owner.path().join(part), &to.join(part))?;
+            }
         }
+        copy_file(&top.join(LISTED), &folder.join(LISTED))?;
         Ok(folder)
     }
 }
@@ -100,7 +122,7 @@ fn trials(top: &Path, crates: &[&str]) -> Result<Vec<Trial>, String> {
     Ok(trials)
 }
 
-/// The function promises nothing, and what proves that it returns what it promises has nothing to prove.
+/// The function promises nothing, and no answer says why it returns what it promises.
 fn weaken(top: &Path, owner: &str, function: &str) -> Result<(), String> {
     let folder = top.join("crates").join(owner);
     let code = folder.join("src");
@@ -116,9 +138,9 @@ fn weaken(top: &Path, owner: &str, function: &str) -> Result<(), String> {
     if !is_found {
         return Err(format!("no promise of {owner}::{function}"));
     }
-    let proof = folder.join("proofs").join(function).join("Proof.antt");
-    if proof.exists() {
-        write(&proof, &weaken_proof(&read_text(&proof)?))?;
+    let answers = folder.join("proofs").join(function).join("Answers.antt");
+    if answers.exists() {
+        write(&answers, &weaken_answers(&read_text(&answers)?))?;
     }
     Ok(())
 }
@@ -158,7 +180,7 @@ impl Trial {
         weaken(top, owner, &self.law.function)?;
         let (mut first, mut weakened) = (None, vec![self.function()]);
         loop {
-            let checked = check(top, &[owner])?;
+            let checked = check(top, owner)?;
             let Some(refused) = checked.refused else {
                 weakened.remove(0);
                 return Ok((first, weakened));
@@ -180,7 +202,7 @@ impl Trial {
     /// A law of the function's own crate: the crate is refused for the law, and for no function.
     fn refused_at_home(&self, top: &Path) -> Result<Outcome, String> {
         weaken(top, &self.law.owner, &self.law.function)?;
-        let checked = check(top, &[self.reader])?;
+        let checked = check(top, self.reader)?;
         if let Some(function) = checked.unproved.first() {
             return Err(format!("not well weakened: {function} is not proved"));
         }
@@ -207,7 +229,7 @@ impl Trial {
         for name in below {
             let code = sources(top, std::slice::from_ref(&name), &["src"], ".rt")?;
             if code.iter().any(|file| self.is_called_in(&file.text)) {
-                let refused = check(top, &[&name])?.refused;
+                let refused = check(top, &name)?.refused;
                 if refused.is_some() {
                     return Ok(refused);
                 }
@@ -223,11 +245,11 @@ impl Trial {
             return self.refused_at_home(&top);
         }
         self.leave_alone(&top)?;
-        if let Some(refused) = check(&top, &[self.reader])?.refused {
+        if let Some(refused) = check(&top, self.reader)?.refused {
             return Err(format!("not proved as it stands: {}", refused.error));
         }
         let (in_crate, weakened) = self.weaken_all(&top)?;
-        let law = self.law_refused(check(&top, &[self.reader])?)?;
+        let law = self.law_refused(check(&top, self.reader)?)?;
         let caller = match in_crate {
             Some(refused) => Some(refused),
             None => self.caller_refused(&top, base)?,
@@ -263,8 +285,10 @@ fn try_all(top: &Path, crates: &[&str]) -> Result<bool, String> {
     let trials = trials(top, crates)?;
     let copies = Copies::new()?;
     let base = copies.copy(top, "base")?;
-    if let Some(refused) = check(&base, &READERS)?.refused {
-        return Err(format!("not proved as it stands: {}", refused.error));
+    for reader in READERS {
+        if let Some(refused) = check(&base, reader)?.refused {
+            return Err(format!("not proved as it stands: {}", refused.error));
+        }
     }
     let begin = Instant::now();
     let mut count = 0;

@@ -59,7 +59,7 @@ fn of_crate(text: &str) -> Option<Vec<Declared>> {
     let text = without_comments(text, "//", "\n")
         .replace("<'a>", "")
         .replace("&'a ", "&");
-    let functions = text.split("#[no_mangle]").skip(1);
+    let functions = text.split("#[unsafe(no_mangle)]").skip(1);
     let declared = functions.map(|function| {
         let function = function.trim_start().strip_prefix("pub extern \"C\" fn ")?;
         let (name, parameters, rest) = head(function)?;
@@ -156,17 +156,17 @@ fn the_crate_the_header_and_this_program_declare_the_same() {
 }
 
 const OF_CRATE: &str = "use x::Y;
-/// #[no_mangle] is no attribute here.
-#[no_mangle]
+/// #[unsafe(no_mangle)] is no attribute here.
+#[unsafe(no_mangle)]
 pub extern \"C\" fn first(plan: &[u8], slot: u32) -> u64 { told(plan) }
 fn told(plan: &[u8]) -> u64 { 0 }
-#[no_mangle]
+#[unsafe(no_mangle)]
 pub extern \"C\" fn second(
     counters: &mut [u32], // all (576)
     number: u8,
     deadline: u16,
 ) -> u64
-    ensures { result == of(counters, 5) }
+    ensures { told result ≡ of counters.new (5 + 0) }
 {
     0
 }

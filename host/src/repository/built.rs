@@ -25,7 +25,7 @@ fn succeed_at_the_top(command: &str) -> Result<(), String> {
 fn build() -> Result<(), String> {
     succeed_at_the_top(&building_command()?)?;
     let lines = LINE_PROGRAMS.join(" ");
-    succeed_at_the_top(&format!("rt check {READ_SCHEDULE} {lines}"))
+    succeed_at_the_top(&format!("tools/programs.sh {READ_SCHEDULE} {lines}"))
 }
 
 /// The folder of the programs.

@@ -19,7 +19,7 @@ const FENCE: &str = "```";
 const PROMPT: &str = "$ ";
 
 /// The command that builds the programs. It is run at the top of the repository, and what it prints is not compared.
-const BUILDING: &str = "rt check ";
+const BUILDING: &str = "tools/programs.sh ";
 
 /// The programs for planners: the guide shows each of them at work.
 const SHOWN: [&str; 5] = [ASSEMBLE, SLOTPLAN, CHART, REHEARSE, LISTING];
@@ -319,7 +319,8 @@ mod tests {
         differences(&commands, &Place::new(name))
     }
 
-    const SOUND: &str = "A page.\n\n```console\n$ rt check nothing\n$ echo a > kept; echo b\nb\n\
+    const SOUND: &str =
+        "A page.\n\n```console\n$ tools/programs.sh nothing\n$ echo a > kept; echo b\nb\n\
         $ cat kept; echo told >&2; echo c\na\ntold\nc\n```\n\n```\nno command\n```\n\
         ```console\n$ cat kept kept\na\na\n$ true\n```\n";
 
@@ -378,9 +379,9 @@ mod tests {
         }
         let commands = |text: &str| Page::of_text(text).unwrap().commands().unwrap();
         assert!(building(&commands(SOUND)).is_ok());
-        let twice = SOUND.replace("$ true", "$ rt check something");
+        let twice = SOUND.replace("$ true", "$ tools/programs.sh something");
         assert!(building(&commands(&twice)).is_err());
-        let never = SOUND.replace("$ rt check nothing\n", "");
+        let never = SOUND.replace("$ tools/programs.sh nothing\n", "");
         assert!(building(&commands(&never)).is_err());
     }
 
@@ -398,7 +399,7 @@ mod tests {
         let built = SHOWN.join(" ");
         format!(
             "See `crates/slotplan/stdin` and `cat <host/../crates`, `README.md`.\n\n{table}\n\
-            ```console\n$ rt check {built}\n$ {programs}cat\n```\n| 1 | a | b |\n"
+            ```console\n$ tools/programs.sh {built}\n$ {programs}cat\n```\n| 1 | a | b |\n"
         )
     }
 

@@ -20,9 +20,12 @@ fn the_claims_name_what_is_there_and_every_public_function() {
 
 const CODE: &str = "\
 // Lets flows in.
-ghost use mathlib.Core.Path.{_≡_};
-ghost use Rattle·desk·specs.specs.Calls.{admitOf as admit·, Asked};
+#![tactic(auto)]
 
+ghost use Rattle.std.specs.Prelude.{◌≡◌, ◌+◌};
+ghost use Rattle.desk.specs.Calls.{admit_of as admitted, Asked};
+
+#[derive(Clone, Copy)]
 pub struct Answer {
     // Whether it is let in.
     pub given: bool,
@@ -38,24 +41,25 @@ pub fn admit(
     flow: u8,
     cells: &mut [u32],
 ) -> Answer
-    requires { ⌜ Asked flow ⌝ }
-    ensures { λ r. ⌜ (r .given, now (cells .exit))
-        ≡ admit· flow (now (cells .entry)) ⌝ }
+    requires { Asked flow }
+    ensures told { (result.given, cells.new)
+        ≡ admitted flow cells.old }
+    ensures some { flow ≡ 0 + flow }
 {
     inner(flow)
 }
 
 fn inner(flow: u8) -> Answer
-    ensures { λ r. ⌜ r .given ≡ true ⌝ }
+    ensures { result.given ≡ true }
 {
     Answer { given: true }
 }
 
-pub(crate) fn hidden(flow: u8) -> u8 {
+pub(crate) fn hidden_flow(flow: u8) -> u8 {
     flow
 }
 
-#[no_mangle]
+#[unsafe(no_mangle)]
 pub extern \"C\" fn plain(flow: u8) -> u8 {
     flow
 }
@@ -63,22 +67,26 @@ pub extern \"C\" fn plain(flow: u8) -> u8 {
 
 const CALLS: &str = "\
 -- What calls give.
-use Rattle·rule.specs.Words.{Outcome, accepted}
+use Rattle.std.specs.Prelude.{ℕ, ◌≤◌, List, [], ◌∷◌}
+use Rattle.rule.specs.Words.{Outcome, accepted, Pair}
 
-unfoldable pub admitOf : ℕ → List ℕ → Bool × List ℕ
-admitOf f cells = (true, cellsOf f cells)
+unfoldable pub admit_of : ℕ → List ℕ → Bool × List ℕ
+admit_of f cells = (true, cells_of f cells)
 
-abbrev cellsOf : ℕ → List ℕ
+abbrev cells_of : ℕ → List ℕ
     → List ℕ
-cellsOf f [] = []
-cellsOf f (c ∷ cells) =
-    accepted c ∷ cellsOf f cells
+cells_of f [] = []
+cells_of f (c ∷ cells) =
+    accepted c ∷ cells_of f cells
 
 -- The flow may be let in.
 pub record Asked (f : ℕ) : Type 0 where
   -- It has a number.
   pub few : f ≤ 63
-  pub some : 1 ≤ f
+  pub some : limits.least ≤ f
+
+abbrev limits : Pair
+limits = record { least = 1; most = 63 }
 
 pub record Unnamed : Type 0 where
   pub field : Unit
@@ -87,12 +95,16 @@ pub record Unnamed : Type 0 where
 const WORDS: &str = "\
 pub data Outcome : Type 0 where
   accepted : ℕ → Outcome
-  not-known : Outcome
+  not_known : Outcome
 
 pub record Kept (f : ℕ) : Type 0 where
   pub late : Late f ≡ true
   pub waits : (n : ℕ)
       → n ≤ f
+
+pub record Pair : Type 0 where
+  pub least : ℕ
+  pub most : ℕ
 
 unfoldable pub Late : ℕ → Bool
 Late f = true
@@ -105,21 +117,21 @@ Premise (suc f) = ⊥
 const LAWS: &str = "\
 -- What holds of calls.
 pub mod Inner
-use Rattle·rule.specs.Words.{Kept, Premise}
-use Rattle·rule.proofs.Shared.{Near}
-use Rattle·desk.proofs.admit.Reads as reads
+use Rattle.rule.specs.Words.{Kept, Premise}
+use Rattle.rule.proofs.Shared.{Near}
+use Rattle.desk.proofs.admit.Reads as reads
 
 -- Each flow is kept.
-pub each-kept : (f : ℕ) → Premise f
+pub each_kept : (f : ℕ) → Premise f
     → Kept f
 unfolding Premise
-each-kept f p = go f
+each_kept f p = go f
   where
     pub go : (f : ℕ) → Kept f
-    go f = hidden-law f
+    go f = hidden_law f
 
-hidden-law : (f : ℕ) → Kept f
-hidden-law f = refl
+hidden_law : (f : ℕ) → Kept f
+hidden_law f = refl
 
 abbrev Alike : ℕ → ℕ → Type 0
 Alike f g = f ≡ g
@@ -128,17 +140,17 @@ module _ (f : ℕ) (p : Premise f) where
   module _ (g : ℕ)
       (e : Alike f g) where
     -- Of two flows.
-    pub both-kept : Kept f × Kept g
-    both-kept = (each-kept f p, each-kept g p)
+    pub both_kept : Kept f × Kept g
+    both_kept = (each_kept f p, each_kept g p)
 
-  pub one-kept : Kept f
-  one-kept = each-kept f p
+  pub one_kept : Kept f
+  one_kept = each_kept f p
 
-pub call-kept : (r : _) → reads.Post r → Near 3 r → Kept r
-call-kept r p n = p
+pub call_kept : (r : _) → reads.Post r → Near 3 r → Kept r
+call_kept r p n = p
 
-pub unnamed-law : Unit
-unnamed-law = tt
+pub unnamed_law : Unit
+unnamed_law = tt
 ";
 
 const SHARED: &str = "\
@@ -155,9 +167,9 @@ const CLAIMS: &str = "\
 # Claims
 
 - **flows are kept** (`rule`, `desk/specs/Calls`)
-  - Definition: `Kept`, `admitOf`, in `host statements`; `(given, cells) ≡ admitOf flow
+  - Definition: `Kept`, `admit_of`, in `host statements`; `(given, cells) ≡ admit_of flow
     cells`
-  - Law: `each-kept`, `both-kept`, `one-kept`, `call-kept`
+  - Law: `each_kept`, `both_kept`, `one_kept`, `call_kept`
   - Refused edit: `kept_by_nobody`, the edits `kept_..`; prints ` equal` and `FF`
 - **`desk::admit`, `plain`**
 ";
@@ -181,9 +193,10 @@ pub fn admit(
     flow: u8,
     cells: &mut [u32],
 ) -> Answer
-    requires { ⌜ Asked flow ⌝ }
-    ensures { λ r. ⌜ (r .given, now (cells .exit))
-        ≡ admit· flow (now (cells .entry)) ⌝ }
+    requires { Asked flow }
+    ensures told { (result.given, cells.new)
+        ≡ admitted flow cells.old }
+    ensures some { flow ≡ 0 + flow }
 
 pub extern \"C\" fn plain(flow: u8) -> u8
 ```
@@ -193,19 +206,19 @@ pub extern \"C\" fn plain(flow: u8) -> u8
 ### `desk`: proofs/Laws.antt
 
 ```
-use Rattle·desk.proofs.admit.Reads as reads
+use Rattle.desk.proofs.admit.Reads as reads
 
-pub each-kept : (f : ℕ) → Premise f
+pub each_kept : (f : ℕ) → Premise f
     → Kept f
 
 module _ (f : ℕ) (p : Premise f) where
   module _ (g : ℕ)
       (e : Alike f g) where
-    pub both-kept : Kept f × Kept g
+    pub both_kept : Kept f × Kept g
 
-  pub one-kept : Kept f
+  pub one_kept : Kept f
 
-pub call-kept : (r : _) → reads.Post r → Near 3 r → Kept r
+pub call_kept : (r : _) → reads.Post r → Near 3 r → Kept r
 ```
 
 ## Definitions
@@ -220,18 +233,21 @@ Alike f g = f ≡ g
 ### `desk`: specs/Calls.antt
 
 ```
-unfoldable pub admitOf : ℕ → List ℕ → Bool × List ℕ
-admitOf f cells = (true, cellsOf f cells)
+unfoldable pub admit_of : ℕ → List ℕ → Bool × List ℕ
+admit_of f cells = (true, cells_of f cells)
 
-abbrev cellsOf : ℕ → List ℕ
+abbrev cells_of : ℕ → List ℕ
     → List ℕ
-cellsOf f [] = []
-cellsOf f (c ∷ cells) =
-    accepted c ∷ cellsOf f cells
+cells_of f [] = []
+cells_of f (c ∷ cells) =
+    accepted c ∷ cells_of f cells
 
 pub record Asked (f : ℕ) : Type 0 where
   pub few : f ≤ 63
-  pub some : 1 ≤ f
+  pub some : limits.least ≤ f
+
+abbrev limits : Pair
+limits = record { least = 1; most = 63 }
 ```
 
 ### `rule`: proofs/Shared.antt
@@ -247,12 +263,16 @@ module _ (most : ℕ) where
 ```
 pub data Outcome : Type 0 where
   accepted : ℕ → Outcome
-  not-known : Outcome
+  not_known : Outcome
 
 pub record Kept (f : ℕ) : Type 0 where
   pub late : Late f ≡ true
   pub waits : (n : ℕ)
       → n ≤ f
+
+pub record Pair : Type 0 where
+  pub least : ℕ
+  pub most : ℕ
 
 unfoldable pub Late : ℕ → Bool
 Late f = true
@@ -274,7 +294,7 @@ const CLAIMS_PATH: &str = "docs/CLAIMS.md";
 const FILES: [(&str, &str); 8] = [
     (
         "crates.txt",
-        "# By level: lower first.\nrule:\ndesk: rule\n",
+        "# By level: lower first.\nrule:\ndesk staticlib: rule\n",
     ),
     (CODE_PATH, CODE),
     (CALLS_PATH, CALLS),
@@ -337,22 +357,21 @@ fn the_statements_of_a_small_repository() {
 fn what_says_less_changes_the_statements() {
     let small = Small::new("less");
     let cases = [
-        (
-            CODE_PATH,
-            "\n        ≡ admit· flow (now (cells .entry))",
-            "",
-        ),
+        (CODE_PATH, "\n        ≡ admitted flow cells.old", ""),
+        (CODE_PATH, "    ensures some { flow ≡ 0 + flow }\n", ""),
         (CODE_PATH, "Asked flow", "⊥"),
         (CODE_PATH, "    flow: u8,\n", ""),
         (CODE_PATH, "    Refused(u8),\n", ""),
         (CODE_PATH, "pub extern", "extern"),
-        (CALLS_PATH, "  pub some : 1 ≤ f\n", ""),
-        (CALLS_PATH, "cellsOf f [] = []", "cellsOf f [] = 0 ∷ []"),
+        (CALLS_PATH, "  pub some : limits.least ≤ f\n", ""),
+        (CALLS_PATH, "least = 1;", "least = 0;"),
+        (CALLS_PATH, "cells_of f [] = []", "cells_of f [] = 0 ∷ []"),
         (WORDS_PATH, "  pub late : Late f ≡ true\n", ""),
         (WORDS_PATH, "      → n ≤ f", "      → n ≤ f + 1"),
         (WORDS_PATH, "Late f = true", "Late f = false"),
         (WORDS_PATH, "Premise zero = Unit\n", ""),
-        (WORDS_PATH, "  not-known : Outcome\n", ""),
+        (WORDS_PATH, "  pub most : ℕ\n", ""),
+        (WORDS_PATH, "  not_known : Outcome\n", ""),
         (LAWS_PATH, "    → Kept f\n", "    → Unit\n"),
         (LAWS_PATH, "(f : ℕ) (p : Premise f) where", "(f : ℕ) where"),
         (
@@ -364,16 +383,16 @@ fn what_says_less_changes_the_statements() {
         (SHARED_PATH, "Near f = f ≤ most", "Near f = ⊥"),
         (
             LAWS_PATH,
-            "  pub one-kept : Kept f\n  one-kept = each-kept f p\n",
+            "  pub one_kept : Kept f\n  one_kept = each_kept f p\n",
             "",
         ),
-        (LAWS_PATH, "pub call-kept", "call-kept"),
+        (LAWS_PATH, "pub call_kept", "call_kept"),
         (
             LAWS_PATH,
             "desk.proofs.admit.Reads",
             "desk.proofs.plain.Reads",
         ),
-        (CLAIMS_PATH, ", `one-kept`", ""),
+        (CLAIMS_PATH, ", `one_kept`", ""),
     ];
     for (path, old, new) in cases {
         let found = small.with(path, old, new, Small::statements);
@@ -393,14 +412,20 @@ fn what_is_no_statement_leaves_them() {
             "    inner(flow)",
             "    let again = flow;\n    inner(again)",
         ),
-        (CODE_PATH, "r .given ≡ true", "r .given ≡ r .given"),
-        (CODE_PATH, "pub(crate) fn hidden(", "fn hidden_now("),
+        (
+            CODE_PATH,
+            "result.given ≡ true",
+            "result.given ≡ result.given",
+        ),
+        (CODE_PATH, "#[derive(Clone, Copy)]\n", ""),
+        (CODE_PATH, "#![tactic(auto)]\n", ""),
+        (CODE_PATH, "pub(crate) fn hidden_flow(", "fn hidden_now("),
         (CALLS_PATH, "  -- It has a number.\n", ""),
         (CALLS_PATH, "  pub field : Unit", "  pub field : ⊥"),
         (
             LAWS_PATH,
-            "each-kept f p = go f",
-            "each-kept zero p = go 0\neach-kept f p = go f",
+            "each_kept f p = go f",
+            "each_kept zero p = go 0\neach_kept f p = go f",
         ),
         (
             LAWS_PATH,
@@ -409,10 +434,10 @@ fn what_is_no_statement_leaves_them() {
         ),
         (
             LAWS_PATH,
-            "hidden-law : (f : ℕ) → Kept f",
-            "hidden-law : Unit",
+            "hidden_law : (f : ℕ) → Kept f",
+            "hidden_law : Unit",
         ),
-        (LAWS_PATH, "unnamed-law : Unit", "unnamed-law : ⊥"),
+        (LAWS_PATH, "unnamed_law : Unit", "unnamed_law : ⊥"),
         (SHARED_PATH, "Far f = most < f", "Far f = ⊥"),
     ];
     for (path, old, new) in cases {
@@ -448,10 +473,10 @@ fn a_difference_is_told_with_its_line_and_the_command() {
 fn a_declaration_that_is_not_understood_is_told() {
     let small = Small::new("unread");
     let told = |small: &Small| statements(&small.0 .0).unwrap_err();
-    let told = small.with(LAWS_PATH, "pub call-kept :", "pub call-kept\n    :", told);
+    let told = small.with(LAWS_PATH, "pub call_kept :", "pub call_kept\n    :", told);
     assert_eq!(
         told,
-        "crates/desk/proofs/Laws.antt: no declaration: pub call-kept"
+        "crates/desk/proofs/Laws.antt: no declaration: pub call_kept"
     );
 }
 
@@ -460,33 +485,42 @@ fn a_declaration_that_is_not_understood_is_told() {
 fn a_name_that_nothing_has_is_told() {
     let small = Small::new("names");
     assert_eq!(small.faults(), [""; 0]);
-    let no_law = "no public law in proofs/";
+    let no_name = "no definition, law, edit, function or crate";
+    let no_definition = "no definition in specs/, law or crate";
     let cases = [
-        ("`each-kept`,", "`each-lost`,", "`each-lost`", no_law),
-        ("`each-kept`,", "`hidden-law`,", "`hidden-law`", no_law),
+        ("`each_kept`,", "`each_lost`,", "`each_lost`", no_name),
+        ("`each_kept`,", "`each-kept`,", "`each-kept`", no_name),
+        ("`each_kept`,", "`hidden_law`,", "`hidden_law`", no_name),
         (
             "`Kept`",
             "`Lost`",
             "`Lost`",
             "no definition in specs/ and no type",
         ),
+        ("`admit_of`", "`lost_of`", "`lost_of`", no_definition),
         (
-            "`admitOf`",
-            "`lostOf`",
-            "`lostOf`",
-            "no definition in specs/ and no type",
+            "`admit_of`",
+            "`hidden_flow`",
+            "`hidden_flow`",
+            no_definition,
         ),
         (
-            "≡ admitOf flow",
-            "≡ lostOf flow",
-            "`(given, cells) ≡ lostOf flow cells`",
-            "no definition in specs/ and no type",
+            "≡ admit_of flow",
+            "≡ lost_of flow",
+            "`(given, cells) ≡ lost_of flow cells`",
+            "an expression with a name of no definition, law or type",
+        ),
+        (
+            "≡ admit_of flow",
+            "≡ hidden_flow flow",
+            "`(given, cells) ≡ hidden_flow flow cells`",
+            "an expression with a name of no definition, law or type",
         ),
         (
             "`kept_by_nobody`",
             "`kept_by_all`",
             "`kept_by_all`",
-            "no edit, function or crate",
+            no_name,
         ),
         ("`kept_..`", "`lost_..`", "`lost_..`", "no edit begins so"),
         (
@@ -514,9 +548,10 @@ fn a_name_that_nothing_has_is_told() {
         assert_eq!(faults, [format!("docs/CLAIMS.md: {name}: {told}")]);
     }
     for name in [
-        "not-known",
+        "not_known",
         "desk",
         "inner",
+        "hidden_flow",
         "Answer",
         "Refused",
         "given",
@@ -534,14 +569,14 @@ fn a_name_that_nothing_has_is_told() {
 #[test]
 fn what_is_gone_is_told() {
     let small = Small::new("gone");
-    let expected = ["docs/CLAIMS.md: `one-kept`: no public law in proofs/"];
+    let expected = ["docs/CLAIMS.md: `one_kept`: no definition, law, edit, function or crate"];
     for new in [
         "",
-        "  one-kept : Kept f\n",
-        "  pub other-kept : Kept f\n",
-        "  abbrev pub one-kept : Type 0\n",
+        "  one_kept : Kept f\n",
+        "  pub other_kept : Kept f\n",
+        "  abbrev pub one_kept : Type 0\n",
     ] {
-        let faults = small.with(LAWS_PATH, "  pub one-kept : Kept f\n", new, Small::faults);
+        let faults = small.with(LAWS_PATH, "  pub one_kept : Kept f\n", new, Small::faults);
         assert_eq!(faults, expected, "{new}");
     }
     fs::remove_file(small.path(EDIT_PATH)).unwrap();
@@ -582,7 +617,7 @@ fn a_function_without_a_row_is_told() {
 fn a_backquote_without_another_is_told() {
     let small = Small::new("backquote");
     let told = |small: &Small| statements(&small.0 .0).unwrap_err();
-    let told = small.with(CLAIMS_PATH, "`one-kept`", "`one-kept", told);
+    let told = small.with(CLAIMS_PATH, "`one_kept`", "`one_kept", told);
     assert!(
         told.starts_with("docs/CLAIMS.md: a backquote without another: - Law: "),
         "{told}"

@@ -1,6 +1,7 @@
 //! docs/TRUST.md tells how many lines of definitions a reader has to believe. They are counted anew here.
 
 use crate::repository::places::{read_text, top};
+use crate::statements::sources::crates;
 use std::collections::{BTreeMap, BTreeSet};
 use std::fs;
 use std::path::Path;
@@ -38,10 +39,9 @@ fn rows(page: &str) -> BTreeMap<String, usize> {
 
 /// The crates with such lines.
 fn counted(top: &Path) -> BTreeMap<String, usize> {
-    let listed = read_text(&top.join("crates.txt"));
-    let names = listed.lines().filter_map(|line| line.split_once(':'));
+    let names = crates(top).unwrap();
     names
-        .map(|(name, _)| name)
+        .iter()
         .filter(|name| top.join("crates").join(name).join("specs").is_dir())
         .map(|name| (name.to_string(), lines_of_crate(top, name)))
         .filter(|&(_, lines)| lines > 0)

@@ -148,11 +148,15 @@ impl<'a> Declaration<'a> {
     }
 }
 
-const SIGNS: &str = "(){}[];,⌜⌝";
+const SIGNS: &str = "(){}[];,";
 
-/// The words of a line that may be names: `way.Stop` is one.
+/// The words of a line that may be names: `way.Stop` is one, and so is `way` before it, since behind the dot may stand a field.
 pub fn words(text: &str) -> impl Iterator<Item = &str> {
     let parts = text.split(|sign: char| sign.is_whitespace() || SIGNS.contains(sign));
     let words = parts.map(|part| part.trim_matches('.'));
-    words.filter(|word| !word.is_empty())
+    let with_owners = words.flat_map(|word| {
+        let owner = word.split_once('.').map(|(owner, _)| owner);
+        [Some(word), owner].into_iter().flatten()
+    });
+    with_owners.filter(|word| !word.is_empty())
 }

@@ -6,8 +6,14 @@ use std::collections::BTreeSet;
 
 pub const PATH: &str = "docs/CLAIMS.md";
 
-/// The names in each paragraph, item of a list, and row of a table.
-type Blocks = Vec<Vec<String>>;
+/// A paragraph, an item of a list, or a row of a table.
+pub struct Block {
+    names: Vec<String>,
+    /// An item that begins with `Definition:`.
+    is_of_definitions: bool,
+}
+
+type Blocks = Vec<Block>;
 
 fn begins_block(line: &str) -> bool {
     let line = line.trim_start();
@@ -29,43 +35,61 @@ fn names_of(lines: &[&str]) -> Result<Vec<String>, String> {
 pub fn blocks(page: &str) -> Result<Blocks, String> {
     let lines: Vec<&str> = page.lines().collect();
     let blocks = lines.chunk_by(|_, next| !begins_block(next));
-    blocks.map(names_of).collect()
+    let block = |lines: &[&str]| {
+        let first = lines[0].trim_start();
+        Ok(Block {
+            names: names_of(lines)?,
+            is_of_definitions: first.starts_with("- Definition:"),
+        })
+    };
+    blocks.map(block).collect()
 }
 
 pub fn names(blocks: &Blocks) -> BTreeSet<String> {
-    blocks.iter().flatten().cloned().collect()
+    let names = blocks.iter().flat_map(|block| &block.names);
+    names.cloned().collect()
 }
 
-/// A name of a law: `packet-left`.
-fn is_hyphenated(name: &str) -> bool {
+/// A name of several words: `packet_left`, `read_of`, `number_64_live`.
+fn is_joined(name: &str) -> bool {
     let is_small = |sign: char| sign.is_ascii_lowercase() || sign.is_ascii_digit();
     let is_part = |part: &str| !part.is_empty() && part.chars().all(is_small);
-    name.contains('-') && name.split('-').all(is_part)
+    let signs = ['_', '-'];
+    name.contains(signs) && name.split(signs).all(is_part)
 }
 
-/// A name of a definition or a type: `readOf`, `Kept`. `FF` is none.
+/// A name of a definition or a type: `Kept`. `FF` is none.
 fn has_both_cases(name: &str) -> bool {
     name.chars().all(|sign| sign.is_alphanumeric())
         && name.chars().any(char::is_uppercase)
         && name.chars().any(char::is_lowercase)
 }
 
+/// What states something: a definition with its parts, a type, a law.
+const STATED: [Kind; 5] = [
+    Kind::Constructor,
+    Kind::Definition,
+    Kind::Field,
+    Kind::Law,
+    Kind::Type,
+];
+
 /// What a single name should be and is not. Letters that stand for themselves and bytes such as `FF` are no names.
-fn fault_of_name(name: &str, known: &Known) -> Option<&'static str> {
-    use Kind::{Constructor, Crate, Definition, Edit, Field, Function, Law, Type};
+fn fault_of_name(name: &str, is_of_definitions: bool, known: &Known) -> Option<&'static str> {
+    use Kind::{Constructor, Crate, Definition, Edit, Field, Function, Type};
     let (holds, told) = if name.contains('/') || name.ends_with(".antt") {
         (known.has_path(name), "no file or folder")
     } else if let Some(function) = name.split_once("::") {
         let holds = known.public_functions.contains(&function);
         (holds, "no public function of that crate")
-    } else if is_hyphenated(name) {
-        let holds = known.is(&[Law, Constructor], name);
-        (holds, "no public law in proofs/")
     } else if let Some(front) = name.strip_suffix("..") {
         (known.has_edit_of_front(front), "no edit begins so")
-    } else if name.contains('_') {
-        let holds = known.is(&[Edit, Function, Crate], name);
-        (holds, "no edit, function or crate")
+    } else if is_joined(name) && is_of_definitions {
+        let holds = known.is(&STATED, name) || known.is(&[Crate], name);
+        (holds, "no definition in specs/, law or crate")
+    } else if is_joined(name) {
+        let holds = known.is(&STATED, name) || known.is(&[Edit, Function, Crate], name);
+        (holds, "no definition, law, edit, function or crate")
     } else if has_both_cases(name) {
         let holds = known.is(&[Definition, Field, Constructor, Type], name);
         (holds, "no definition in specs/ and no type")
@@ -77,30 +101,35 @@ fn fault_of_name(name: &str, known: &Known) -> Option<&'static str> {
 }
 
 /// Of a name, of `host` with a command, or of an expression: there only names of laws, of definitions and of types are judged.
-fn fault(name: &str, known: &Known) -> Option<&'static str> {
+fn fault(name: &str, is_of_definitions: bool, known: &Known) -> Option<&'static str> {
     if let Some(command) = name.strip_prefix("host ") {
         let command = command.split(' ').next().unwrap_or_default();
         let holds = known.is(&[Kind::Command], command);
         return (!holds).then_some("no command of host");
     }
     if !name.contains(' ') {
-        return fault_of_name(name, known);
+        return fault_of_name(name, is_of_definitions, known);
     }
-    let mut names = words(name).filter(|word| is_hyphenated(word) || has_both_cases(word));
-    names.find_map(|name| fault_of_name(name, known))
+    let mut names = words(name).filter(|word| is_joined(word) || has_both_cases(word));
+    let is_stated = names.all(|name| known.is(&STATED, name));
+    (!is_stated).then_some("an expression with a name of no definition, law or type")
 }
 
 /// A line for each name that is not one of anything.
 pub fn faults(blocks: &Blocks, known: &Known) -> Vec<String> {
-    let names = names(blocks).into_iter();
-    let faults = names.filter_map(|name| Some((fault(&name, known)?, name)));
-    faults
-        .map(|(told, name)| format!("{PATH}: `{name}`: {told}"))
-        .collect()
+    let faults_of = |block: &Block| {
+        let fault = |name: &String| {
+            let told = fault(name, block.is_of_definitions, known)?;
+            Some(format!("{PATH}: `{name}`: {told}"))
+        };
+        block.names.iter().filter_map(fault).collect::<Vec<_>>()
+    };
+    let faults: BTreeSet<String> = blocks.iter().flat_map(faults_of).collect();
+    faults.into_iter().collect()
 }
 
 /// The functions that a block names: by `crate::function`, by their names alone behind one of the same crate, or by a name that only they have.
-fn functions_of<'a>(block: &'a [String], known: &Known<'a>) -> Vec<(&'a str, &'a str)> {
+fn functions_of<'a>(block: &'a Block, known: &Known<'a>) -> Vec<(&'a str, &'a str)> {
     let mut last = None;
     let function = |name: &'a String| {
         if let Some((owner, function)) = name.split_once("::") {
@@ -111,7 +140,7 @@ fn functions_of<'a>(block: &'a [String], known: &Known<'a>) -> Vec<(&'a str, &'a
         let owner = last.filter(is_of).or_else(|| known.only_owner(name))?;
         Some((owner, &name[..]))
     };
-    block.iter().filter_map(function).collect()
+    block.names.iter().filter_map(function).collect()
 }
 
 /// A line for each public function that the page does not name; those of test programs have no row.

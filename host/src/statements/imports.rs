@@ -20,11 +20,14 @@ fn name(text: &str) -> (&str, &str) {
     }
 }
 
-/// `use Rattle·OWNER.specs.FILE.{a, b as c}` or `use Rattle·OWNER.proofs.FILE as d`; `OWNER·specs` is the crate itself.
+/// The library of the kit. What comes from there is no definition of a crate.
+const LIBRARY: &str = "std";
+
+/// `use Rattle.OWNER.specs.FILE.{a, b as c}` or `use Rattle.OWNER.proofs.FILE as d`, of the crate itself or of another.
 fn import(line: &str) -> Option<Import<'_>> {
     let text = line.trim().trim_end_matches(';');
     let text = text.strip_prefix("ghost ").unwrap_or(text);
-    let text = text.strip_prefix("use Rattle·")?;
+    let text = text.strip_prefix("use Rattle.")?;
     let (module, names, alias) = match text.split_once(".{") {
         Some((module, names)) => {
             let names = names.trim_end_matches('}').split(',').map(name);
@@ -36,9 +39,9 @@ fn import(line: &str) -> Option<Import<'_>> {
         }
     };
     let (owner, path) = module.split_once('.')?;
-    Some(Import {
+    (owner != LIBRARY).then(|| Import {
         line,
-        owner: owner.split('·').next()?,
+        owner,
         path: path.replace('.', "/"),
         names,
         alias,

@@ -44,7 +44,7 @@ struct Repository {
     code: Vec<Source>,
     declared: Vec<Source>,
     edits: Vec<Source>,
-    claims: Vec<Vec<String>>,
+    claims: Vec<claims::Block>,
 }
 
 impl Repository {

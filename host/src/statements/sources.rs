@@ -18,12 +18,18 @@ pub fn read_text(path: &Path) -> Result<String, String> {
     fs::read_to_string(path).map_err(at(path))
 }
 
+/// A line of crates.txt: the crate, without what it is built as, and those that it uses.
+pub fn listed_crate(line: &str) -> Option<(&str, &str)> {
+    let (name, used) = line.split_once(':')?;
+    let name = name.split_whitespace().next()?;
+    (!line.starts_with('#')).then_some((name, used))
+}
+
 /// The names of the crates, sorted.
 pub fn crates(top: &Path) -> Result<Vec<String>, String> {
     let listed = read_text(&top.join("crates.txt"))?;
-    let lines = listed.lines().filter(|line| !line.starts_with('#'));
-    let names = lines.filter_map(|line| line.split_once(':'));
-    let mut names: Vec<String> = names.map(|(name, _)| name.to_string()).collect();
+    let crates = listed.lines().filter_map(listed_crate);
+    let mut names: Vec<String> = crates.map(|(name, _)| name.to_string()).collect();
     names.sort();
     Ok(names)
 }

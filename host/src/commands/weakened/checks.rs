@@ -21,12 +21,6 @@ pub struct Checked {
 /// An error is told up to this many signs.
 const SHOWN: usize = 180;
 
-/// `rt: NAME NOT PROVED (exit 1, 2 s)`, with the status in words. A crate above a refused one has no status.
-fn not_proved(line: &str) -> Option<(&str, &str)> {
-    let (name, status) = line.strip_prefix("rt: ")?.split_once(" NOT PROVED (")?;
-    Some((name, status.split(',').next()?))
-}
-
 /// `fn CRATE::FUNCTION: not proved`, or where rt was to find the proof, `fn CRATE::FUNCTION: no proof: ..`.
 fn unproved_function(line: &str) -> Option<&str> {
     let (function, told) = line.strip_prefix("fn ")?.split_once(": ")?;
@@ -34,55 +28,87 @@ fn unproved_function(line: &str) -> Option<&str> {
     is_unproved.then_some(function)
 }
 
-/// What `rt check` printed, read: each crate's lines stand together, and its verdict is the last of them. An end that is no verdict of the prover is an error.
-pub fn read(printed: &str, top: &Path) -> Result<Checked, String> {
-    let top = format!("{}/", top.display());
+/// `rt: chose --jobs 2 for NAME`: what follows is told of this crate.
+fn begun(line: &str) -> Option<&str> {
+    let (begin, name) = line.split_once(" for ")?;
+    begin.starts_with("rt: chose --jobs ").then_some(name)
+}
+
+/// `rt: the library NAME did not build, so nothing above it was checked`.
+fn not_built(line: &str) -> Option<&str> {
+    let (name, _) = line
+        .strip_prefix("rt: the library ")?
+        .split_once(" did not build")?;
+    Some(name)
+}
+
+fn is_error(line: &str) -> bool {
+    [": error: ", ": error["]
+        .iter()
+        .any(|sign| line.contains(sign))
+}
+
+/// An error as it is told, with the path of its file below the top. Of a function whose proof rt was to find there is no other error.
+fn shown(line: &str, owner: &str) -> String {
+    let path = line.strip_prefix("./").unwrap_or(line);
+    let is_of_crate = ["src/", "specs/", "proofs/"]
+        .iter()
+        .any(|folder| path.starts_with(folder));
+    let shown = match is_of_crate {
+        true => format!("crates/{owner}/{path}"),
+        false => line.to_string(),
+    };
+    shown.chars().take(SHOWN).collect()
+}
+
+/// What `rt check` printed in the folder of the crate `name` before it ended with this status, read. The libraries that the crate uses come before it, and the
+/// first that is refused is the last of all. A status that is no verdict of the prover is an error.
+pub fn read(printed: &str, name: &str, status: Option<i32>) -> Result<Checked, String> {
+    let mut owner = name;
     let mut errors: Vec<String> = Vec::new();
-    let mut refused = None;
     let mut unproved = Vec::new();
     for line in printed.lines() {
+        if let Some(next) = begun(line) {
+            owner = next;
+            errors.clear();
+            unproved.clear();
+        }
+        if let Some(library) = not_built(line) {
+            owner = library;
+        }
         if let Some(function) = unproved_function(line) {
             unproved.push(function.to_string());
-            // Of a function whose proof rt was to find there is no error.
-            errors.push(line.replace(&top, "").chars().take(SHOWN).collect());
+            errors.push(shown(line, owner));
         }
-        if line.contains(": error: ") {
-            errors.push(line.replace(&top, "").chars().take(SHOWN).collect());
-        }
-        match not_proved(line) {
-            Some((name, "exit 1")) if refused.is_none() => {
-                let error = errors.first().ok_or(format!("no error: {line}"))?;
-                refused = Some(Refused {
-                    owner: name.to_string(),
-                    error: error.clone(),
-                });
-            }
-            Some((_, "exit 1")) | None => {}
-            Some(_) => return Err(format!("no verdict: {line}")),
-        }
-        if line.starts_with("rt: ") {
-            errors.clear();
+        if is_error(line) {
+            errors.push(shown(line, owner));
         }
     }
-    Ok(Checked { refused, unproved })
+    let last = printed.lines().last().unwrap_or_default();
+    match (status, errors.into_iter().next()) {
+        (Some(0), _) => Ok(Checked {
+            refused: None,
+            unproved: Vec::new(),
+        }),
+        (Some(1), Some(error)) => Ok(Checked {
+            refused: Some(Refused {
+                owner: owner.to_string(),
+                error,
+            }),
+            unproved,
+        }),
+        _ => Err(format!("no verdict: status {status:?}: {last}")),
+    }
 }
 
 /// Proves the crate and what it uses, in the repository at `top`.
-pub fn check(top: &Path, names: &[&str]) -> Result<Checked, String> {
+pub fn check(top: &Path, name: &str) -> Result<Checked, String> {
+    let folder = top.join("crates").join(name);
     let run = Command::new("sh")
-        .args(["-c", "exec rt check \"$@\" 2>&1", "rt"])
-        .args(names)
-        .current_dir(top)
+        .args(["-c", "exec rt check 2>&1"])
+        .current_dir(&folder)
         .output()
         .map_err(|error| format!("rt: {error}"))?;
     let printed = String::from_utf8_lossy(&run.stdout);
-    let checked = read(&printed, top)?;
-    match (run.status.code(), &checked.refused) {
-        (Some(0), None) | (Some(1), Some(_)) => Ok(checked),
-        _ => Err(format!(
-            "rt check ended with {}: {}",
-            run.status,
-            printed.lines().last().unwrap_or_default()
-        )),
-    }
+    read(&printed, name, run.status.code())
 }

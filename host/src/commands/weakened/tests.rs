@@ -1,16 +1,19 @@
 use super::checks::{read, Checked, Refused};
-use super::texts::{alone, crates_below, laws, weaken_promise, weaken_proof, with_fewer_uses, Law};
+use super::texts::{
+    alone, crates_below, laws, weaken_answers, weaken_promise, with_fewer_uses, Law,
+};
 use std::collections::BTreeSet;
-use std::path::Path;
 
 const CODE: &str = "\
 // Lets flows in.
-ghost use mathlib.Core.Path.{_≡_};
-ghost use Rattle·desk·specs.specs.Calls.{admitOf};
+#![tactic(auto)]
+
+ghost use Rattle.std.specs.Prelude.{◌≡◌, ◌+◌};
+ghost use Rattle.desk.specs.Calls.{admit_of, Asked};
 
 // Not admit(flow), but fn admit(flow) below.
 fn admit_all(flow: u8) -> u8
-    ensures { λ r. ⌜ r ≡ 1 ⌝ }
+    ensures { result ≡ 1 }
 {
     flow
 }
@@ -20,9 +23,10 @@ pub fn admit<'a>(
     flow: u8,
     cells: &'a mut [u32],
 ) -> u8
-    requires { ⌜ Asked flow ⌝ }
-    ensures { λ r. ⌜ (r, now (cells .exit))
-        ≡ admitOf flow (now (cells .entry)) ⌝ }
+    requires { Asked flow }
+    ensures told { (result, cells.new)
+        ≡ admit_of flow cells.old }
+    ensures more { result ≡ flow + 0 }
 {
     admit_all(flow)
 }
@@ -32,7 +36,7 @@ pub fn plain(flow: u8) -> u8 {
 }
 
 pub fn after(flow: u8) -> u8
-    ensures { λ r. ⌜ r ≡ 2 ⌝ }
+    ensures { result ≡ 2 }
 {
     flow
 }
@@ -40,11 +44,11 @@ pub fn after(flow: u8) -> u8
 
 #[test]
 fn only_the_promise_of_the_function_is_weakened() {
-    let promise = "⌜ (r, now (cells .exit))\n        ≡ admitOf flow (now (cells .entry)) ⌝";
-    let expected = CODE.replace(promise, "⌜ r ≡ r ⌝");
+    let promises = "told { (result, cells.new)\n        ≡ admit_of flow cells.old }\n    ensures more { result ≡ flow + 0 }";
+    let expected = CODE.replace(promises, "{ result ≡ result }");
     assert_ne!(expected, CODE);
     assert_eq!(weaken_promise(CODE, "admit").unwrap(), expected);
-    let expected = CODE.replace("⌜ r ≡ 1 ⌝", "⌜ r ≡ r ⌝");
+    let expected = CODE.replace("{ result ≡ 1 }", "{ result ≡ result }");
     assert_eq!(weaken_promise(CODE, "admit_all").unwrap(), expected);
 }
 
@@ -55,92 +59,92 @@ fn a_function_without_a_promise_is_not_weakened() {
     assert_eq!(weaken_promise(CODE, "missing"), None);
 }
 
-/// Where the file has no import of equations, or one without `≡`.
+/// Where the file has no import of equations, or one of the library without `≡`.
 #[test]
 fn the_weaker_promise_is_readable() {
-    let import = "ghost use mathlib.Core.Path.{_≡_};\n";
+    let import = "ghost use Rattle.std.specs.Prelude.{◌≡◌, ◌+◌};\n";
     let without = CODE.replace(import, "");
-    assert!(weaken_promise(&without, "after").unwrap().contains(import));
-    let other = CODE.replace("{_≡_}", "{sym}");
+    let weakened = weaken_promise(&without, "after").unwrap();
+    let added = "ghost use Rattle.std.specs.Prelude.{◌≡◌};\nghost use Rattle.desk";
+    assert!(weakened.contains(added));
+    let other = CODE.replace("{◌≡◌, ◌+◌}", "{◌+◌}");
     let weakened = weaken_promise(&other, "after").unwrap();
-    assert!(weakened.contains("\nghost use mathlib.Core.Path.{sym, _≡_};\n"));
+    assert!(weakened.contains("\nghost use Rattle.std.specs.Prelude.{◌+◌, ◌≡◌};\n"));
+    let second = CODE.replace(import, &format!("{}{import}", import.replace("◌≡◌, ", "")));
+    let weakened = weaken_promise(&second, "after").unwrap();
+    assert_eq!(weakened, second.replace("result ≡ 2", "result ≡ result"));
 }
 
-const PROOF: &str = "\
+const ANSWERS: &str = "\
 -- Right because it returns.
-use mathlib.Core.Path.{sym, _∙_}
-use Rattle·desk·proofs.proofs.admit.Tie as tie
+use mathlib.Core.Path.{sym, ◌∙◌}
+use Rattle.desk.specs.Calls.{admit_of}
+use Rattle.desk.proofs.admit.Goals as goal
 
-returns-more : Unit
-returns-more = unit
+returned : Unit
+returned = unit
 
-returns : tie.Need-returns
-unfolding admitOf
+pub returns : goal.returns
+unfolding admit_of
 returns c = go c
   where
     go : Unit
     go = unit
 
-returns-2 : tie.Need-returns-2 Inv-loop
-returns-2 c =
-    let e = sym (c .ensures) in
+pub loop-i-init : goal.loop-i-init
+loop-i-init c = c.requires
+
+pub returns-then-n-ge64 : goal.returns-then-n-ge64
+returns-then-n-ge64 c =
+    let e = sym c.admit_all.ensures in
     e ∙ e
 
-returns-13 : tie.Need-returns-13
-returns-13 c = (
-  c .before,
-)
+pub admit_all-requires : goal.admit_all-requires
+admit_all-requires c = c.requires
 
-pub admit-spec : {M : Type 1} → statement M
-admit-spec = tie.close (tie.spec returns returns-2 returns-13)
+pub returns-after-loop-i : goal.returns-after-loop-i
+returns-after-loop-i t c = (
+  c.loop-i.invariant,
+)
 ";
 
 const WEAKENED: &str = "\
 -- Right because it returns.
-use mathlib.Core.Path.{sym, _∙_, refl}
-use Rattle·desk·proofs.proofs.admit.Tie as tie
+use mathlib.Core.Path.{sym, ◌∙◌}
+use Rattle.desk.specs.Calls.{admit_of}
+use Rattle.desk.proofs.admit.Goals as goal
 
-returns-more : Unit
-returns-more = unit
+returned : Unit
+returned = unit
 
-returns : tie.Need-returns
-unfolding admitOf
-returns c = refl
 
-returns-2 : tie.Need-returns-2 Inv-loop
-returns-2 c = refl
+pub loop-i-init : goal.loop-i-init
+loop-i-init c = c.requires
 
-returns-13 : tie.Need-returns-13
-returns-13 c = refl
 
-pub admit-spec : {M : Type 1} → statement M
-admit-spec = tie.close (tie.spec returns returns-2 returns-13)
+pub admit_all-requires : goal.admit_all-requires
+admit_all-requires c = c.requires
+
 ";
 
 #[test]
-fn each_return_has_nothing_to_prove() {
-    assert_eq!(weaken_proof(PROOF), WEAKENED);
-    assert_eq!(weaken_proof(WEAKENED), WEAKENED);
-}
-
-#[test]
-fn refl_is_imported_where_no_equation_was() {
-    let without = PROOF.replace("use mathlib.Core.Path.{sym, _∙_}\n", "");
-    let weakened = weaken_proof(&without);
-    assert!(weakened.contains("use mathlib.Core.Path.{refl}\nuse Rattle·desk"));
+fn no_return_has_an_answer() {
+    assert_eq!(weaken_answers(ANSWERS), WEAKENED);
+    assert_eq!(weaken_answers(WEAKENED), WEAKENED);
 }
 
 const LAWS: &str = "\
 -- Contracts give equations.
-use mathlib.Core.Path.{_≡_}
-use Rattle·desk.specs.Calls.{admitOf, Shown}
-use Rattle·rule.specs.Words.{ruled}
-use Rattle·desk.proofs.admit.Reads as admits
-use Rattle·gate·proofs.proofs.open_gate.Reads as gates
+use mathlib.Core.Path.{refl}
+use Rattle.std.specs.Prelude.{◌≡◌}
+use Rattle.desk.specs.Calls.{admit_of, Shown}
+use Rattle.rule.specs.Words.{ruled}
+use Rattle.desk.proofs.admit.Reads as admits
+use Rattle.gate.proofs.open_gate.Reads as gates
 
 -- What admit gives.
 pub admitting : (a : _) (r : _)
-    → admits.Post a r → Shown r ≡ admitOf a
+    → admits.Post a r → Shown r ≡ admit_of a.0.now
 unfolding Shown
 admitting a r p = p
 
@@ -174,12 +178,13 @@ fn names(names: &[&str]) -> BTreeSet<String> {
 #[test]
 fn a_law_alone_keeps_what_it_names() {
     let expected = "\
-use mathlib.Core.Path.{_≡_}
-use Rattle·desk.specs.Calls.{admitOf, Shown}
-use Rattle·desk.proofs.admit.Reads as admits
+use mathlib.Core.Path.{refl}
+use Rattle.std.specs.Prelude.{◌≡◌}
+use Rattle.desk.specs.Calls.{admit_of, Shown}
+use Rattle.desk.proofs.admit.Reads as admits
 
 pub admitting : (a : _) (r : _)
-    → admits.Post a r → Shown r ≡ admitOf a
+    → admits.Post a r → Shown r ≡ admit_of a.0.now
 unfolding Shown
 admitting a r p = p
 ";
@@ -201,6 +206,7 @@ desk: lists
 hall: desk
 
 # level 2
+hall_c staticlib: hall desk
 contracts: hall gate desk rule lists
 ";
 
@@ -210,61 +216,99 @@ fn the_crate_of_a_law_alone_uses_what_the_law_needs() {
     let expected = LISTED.replace("hall gate desk rule lists", "gate rule lists");
     assert_eq!(fewer, expected);
     assert_eq!(crates_below(LISTED, "hall"), ["lists", "desk"]);
+    assert_eq!(crates_below(LISTED, "hall_c"), ["lists", "desk", "hall"]);
 }
 
 const PRINTED: &str = "\
-rt: lists proved (unchanged since it was last proved)
-/scratch/crates/desk/proofs/admit/Proof.antt:3:1: note: nothing
+rt: chose --jobs 2 for desk
+./proofs/admit/Answers.antt:3:1: note: nothing
 fn desk::admit: proved
-rt: desk proved (4 s)
-/scratch/crates/hall/proofs/enter/Proof.antt:45:13: error: `returns`: not this
-/scratch/crates/hall/proofs/leave/Proof.antt:8:1: error: `returns`: nor this
+logic=proved functions=1
+rt: chose --jobs 2 for hall
+checked hall::enter, 1 of 2
+./proofs/enter/Answers.antt:45:13: error: `returns`: not this
+./proofs/leave/Answers.antt:8:1: error: `returns`: nor this
 fn hall::enter: not proved
-fn hall::leave: proved
-rt: hall NOT PROVED (exit 1, 18 s)
-/scratch/crates/gate/proofs/Laws.antt:8:1: error: `opening`: nor this
-rt: gate NOT PROVED (exit 1, 2 s)
-rt: contracts NOT PROVED: its dependency hall is not proved
-rt: FAILED: hall gate contracts
+fn hall::leave: not proved
+logic=not-proved
+rattle build: nothing was built, since only a proved crate is built
+src/lib.rt:8:1: error[later]: of the crate above
+only=0 proved=0
+rt: the library hall did not build, so nothing above it was checked
 ";
 
 #[test]
 fn the_first_refused_crate_is_told_with_its_first_error() {
-    let error = "crates/hall/proofs/enter/Proof.antt:45:13: error: `returns`: not this";
+    let error = "crates/hall/proofs/enter/Answers.antt:45:13: error: `returns`: not this";
     let expected = Checked {
         refused: Some(Refused {
             owner: "hall".to_string(),
             error: error.to_string(),
         }),
-        unproved: vec!["hall::enter".to_string()],
+        unproved: vec!["hall::enter".to_string(), "hall::leave".to_string()],
     };
-    assert_eq!(read(PRINTED, Path::new("/scratch")).unwrap(), expected);
+    let checked = read(PRINTED, "contracts", Some(1)).unwrap();
+    assert_eq!(checked, expected);
 }
 
 const WITHOUT_ERROR: &str = "\
-note: /scratch/crates/hall/src/lib.rt:100:1: it is not proved that what the function ensures holds
+rt: chose --jobs 2 for hall
+note: src/lib.rt:100:1: it is not proved that what the function ensures holds
 fn hall::enter: proved
-fn hall::leave: no proof: expected `leave-spec` in /scratch/crates/hall/proofs/leave/Proof.antt
-rt: hall NOT PROVED (exit 1, 12 s)
+fn hall::leave: no proof: the search found none
+logic=not-proved
+rt: rt check --start hall::leave --allow-holes writes a function's proof files
 ";
 
 #[test]
 fn a_function_that_rt_finds_no_proof_of_is_told_as_unproved() {
-    let checked = read(WITHOUT_ERROR, Path::new("/scratch")).unwrap();
-    let expected =
-        "fn hall::leave: no proof: expected `leave-spec` in crates/hall/proofs/leave/Proof.antt";
-    assert_eq!(checked.refused.unwrap().error, expected);
+    let checked = read(WITHOUT_ERROR, "hall", Some(1)).unwrap();
+    let refused = checked.refused.unwrap();
+    assert_eq!(refused.owner, "hall");
+    assert_eq!(
+        refused.error,
+        "fn hall::leave: no proof: the search found none"
+    );
     assert_eq!(checked.unproved, ["hall::leave"]);
 }
 
-/// A check that proves all, one that could not tell, and a refusal without an error.
+/// Of code, of a definition and of a law that no function names.
+#[test]
+fn an_error_is_told_with_its_crate() {
+    for (line, told) in [
+        (
+            "src/lib.rt:23:15: error: `ensures-1`: no",
+            "crates/hall/src/lib.rt:23:15: error: `ensures-1`: no",
+        ),
+        (
+            "src/lib.rt:8:1: error[reserved-name]: no",
+            "crates/hall/src/lib.rt:8:1: error[reserved-name]: no",
+        ),
+        (
+            "./specs/Words.antt:2:1: error: no",
+            "crates/hall/specs/Words.antt:2:1: error: no",
+        ),
+        (
+            "./proofs/Laws.antt:8:29: error: `opening`: no",
+            "crates/hall/proofs/Laws.antt:8:29: error: `opening`: no",
+        ),
+    ] {
+        let printed = format!("rt: chose --jobs 1 for hall\n{line}\nlogic=not-proved\n");
+        let refused = read(&printed, "hall", Some(1)).unwrap().refused.unwrap();
+        assert_eq!(
+            (refused.owner.as_str(), refused.error.as_str()),
+            ("hall", told)
+        );
+    }
+}
+
+/// A check that proves all, ones that could not tell or were ended, and a refusal without an error.
 #[test]
 fn only_a_verdict_of_the_prover_is_a_refusal() {
-    let top = Path::new("/scratch");
-    let proved = read("rt: ok, 9 crates proved\n", top).unwrap();
-    assert_eq!(proved.refused, None);
-    let could_not_tell = PRINTED.replace("exit 1", "exit 3");
-    assert!(read(&could_not_tell, top).is_err());
-    let without_error = "rt: hall NOT PROVED (exit 1, 18 s)\n";
-    assert!(read(without_error, top).is_err());
+    let proved = "rt: chose --jobs 2 for hall\nfn hall::enter: proved\nlogic=proved functions=1\n";
+    assert_eq!(read(proved, "hall", Some(0)).unwrap().refused, None);
+    for status in [Some(2), Some(3), Some(101), None] {
+        assert!(read(PRINTED, "contracts", status).is_err());
+    }
+    assert!(read(proved, "hall", Some(1)).is_err());
 }

@@ -2,6 +2,7 @@
 
 use crate::statements::antt::{declarations, words, Declaration};
 use crate::statements::imports::{imports, Import};
+use crate::statements::sources::listed_crate;
 use std::collections::BTreeSet;
 
 /// A law that reads the contract of a function.
@@ -14,26 +15,28 @@ pub struct Law {
 }
 
 /// A promise that holds of anything.
-const NOTHING: &str = "ensures { λ r. ⌜ r ≡ r ⌝ }";
+const NOTHING: &str = "    ensures { result ≡ result }";
 
-const EQUATIONS: &str = "mathlib.Core.Path";
+const EQUATION: &str = "◌≡◌";
 
-/// With the name imported. A line of an import begins with `begin` and ends with `end`; where there is none, one is put before all others.
-fn with_import(text: &str, begin: &str, name: &str, end: &str) -> String {
-    let opening = format!("{begin}{EQUATIONS}.{{");
-    let is_import = |line: &str| line.starts_with(&opening);
-    let Some(line) = text.lines().find(|line| is_import(line)) else {
-        let first = text.lines().position(|line| line.starts_with(begin));
-        let mut lines: Vec<&str> = text.lines().collect();
-        let added = format!("{opening}{name}}}{end}");
+const EQUATIONS: &str = "ghost use Rattle.std.specs.Prelude.{";
+
+/// With equations imported. Where the file has no import of the library, one is put before all others.
+fn with_equations(code: &str) -> String {
+    let is_import = |line: &&str| line.starts_with(EQUATIONS);
+    let has_equation = |line: &str| words(line).any(|word| word == EQUATION);
+    if code.lines().filter(is_import).any(has_equation) {
+        return code.to_string();
+    }
+    let Some(line) = code.lines().find(is_import) else {
+        let first = code.lines().position(|line| line.starts_with("ghost use "));
+        let mut lines: Vec<&str> = code.lines().collect();
+        let added = format!("{EQUATIONS}{EQUATION}}};");
         lines.insert(first.unwrap_or(0), &added);
         return lines.join("\n") + "\n";
     };
-    if words(line).any(|word| word == name) {
-        return text.to_string();
-    }
-    let longer = line.replacen('}', &format!(", {name}}}"), 1);
-    text.replacen(line, &longer, 1)
+    let longer = line.replacen('}', &format!(", {EQUATION}}}"), 1);
+    code.replacen(line, &longer, 1)
 }
 
 /// Where the line begins that begins the function.
@@ -56,46 +59,33 @@ fn begin_of(code: &str, function: &str) -> Option<usize> {
 /// The code in which the function promises nothing, or None if the function is not there or has no promise.
 pub fn weaken_promise(code: &str, function: &str) -> Option<String> {
     let begin = begin_of(code, function)?;
-    // With a promise the body begins in a line of its own.
+    // With a promise the body begins in a line of its own, behind all that is promised.
     let end = begin + code[begin..].find("\n}")?;
-    let body = begin + code[begin..end].find("\n{")?;
-    let first = begin + code[begin..body].find("ensures {")?;
-    let closing = "⌝ }";
-    let last = first + code[first..body].find(closing)? + closing.len();
-    let weakened = format!("{}{NOTHING}{}", &code[..first], &code[last..]);
-    Some(with_import(&weakened, "ghost use ", "_≡_", ";"))
+    let body = begin + code[begin..end].find("\n{\n")?;
+    let first = begin + code[begin..body].find("\n    ensures ")? + 1;
+    let weakened = format!("{}{NOTHING}{}", &code[..first], &code[body..]);
+    Some(with_equations(&weakened))
 }
 
-/// The left side of an equation of `returns`, `returns-2` and so on.
-fn left_side(line: &str) -> Option<&str> {
-    let (left, _) = line.split_once(" =")?;
-    let mut words = left.split(' ');
-    let behind = words.next()?.strip_prefix("returns")?;
-    let is_numbered = behind
-        .strip_prefix('-')
-        .is_some_and(|number| number.parse::<u32>().is_ok());
-    let is_signature = words.next() == Some(":");
-    ((behind.is_empty() || is_numbered) && !is_signature).then_some(left)
+/// Whether the line begins an answer to a goal of a return: `pub returns : goal.returns`, `returns-then-n-ge64 c = ..` and so on.
+fn is_of_return(line: &str) -> bool {
+    let line = line.strip_prefix("pub ").unwrap_or(line);
+    let name = line.split(' ').next().unwrap_or_default();
+    name == "returns" || name.starts_with("returns-")
 }
 
-/// The proof with nothing to prove at its returns. A body goes up to the next blank line.
-pub fn weaken_proof(proof: &str) -> String {
+/// The answers without those at returns, where `rt` finds by itself that nothing is to be proved. An answer goes up to the next blank line.
+pub fn weaken_answers(answers: &str) -> String {
     let mut lines = Vec::new();
-    let mut is_in_body = false;
-    for line in proof.lines() {
-        is_in_body &= !line.trim().is_empty();
-        if is_in_body {
-            continue;
-        }
-        match left_side(line) {
-            Some(left) => {
-                is_in_body = true;
-                lines.push(format!("{left} = refl"));
-            }
-            None => lines.push(line.to_string()),
+    let mut is_in_answer = false;
+    for line in answers.lines() {
+        is_in_answer |= is_of_return(line);
+        is_in_answer &= !line.trim().is_empty();
+        if !is_in_answer {
+            lines.push(line);
         }
     }
-    with_import(&(lines.join("\n") + "\n"), "use ", "refl", "")
+    lines.join("\n") + "\n"
 }
 
 /// Whether a line of the declaration has a word that comes by this import.
@@ -156,8 +146,8 @@ pub fn alone(text: &str, law: &str) -> Result<(String, BTreeSet<String>), String
 
 /// A line of crates.txt: the crate and those that it uses.
 fn uses(line: &str) -> Option<(&str, Vec<&str>)> {
-    let (name, used) = line.split_once(':')?;
-    (!line.starts_with('#')).then(|| (name, used.split_whitespace().collect()))
+    let (name, used) = listed_crate(line)?;
+    Some((name, used.split_whitespace().collect()))
 }
 
 /// These crates and all that they are built on. In crates.txt a crate stands below those that it uses.
