@@ -1,25 +1,30 @@
 //! Tests of the script .ci/run, on copies of it that meet other commands in the place of rt, cargo and gcc: whichever of them fails or is missing, the
 //! script fails, and its last line is that of `rt ci` only if all pass.
 
-use crate::repository::places::{top, Folder};
-use std::env;
+use crate::repository::places::{link_programs, top, write_script, Folder};
 use std::fs;
-use std::io::{BufRead, BufReader, Read, Write};
-use std::os::unix::fs::symlink;
+use std::io::{BufRead, BufReader, Read};
 use std::path::PathBuf;
 use std::process::{Command, Output, Stdio};
 
 /// What the script and the commands below use besides.
-const TOOLS: [&str; 8] = [
-    "cat", "dirname", "mktemp", "rm", "sh", "sleep", "tail", "tee",
+const TOOLS: [&str; 9] = [
+    "cat", "dirname", "grep", "mktemp", "rm", "sh", "sleep", "tail", "tee",
 ];
 
 const VERDICT: &str = "3 passed, 0 failed";
 
-const RT_PASSES: &str = "echo proved\necho '3 passed, 0 failed'";
+const OK: &str =
+    "rt: ok; handles allowed: none; must-fail edits: 12 refused; done in this run: all";
+
+const RT_PASSES: &str = "echo proved
+echo 'rt: ok; handles allowed: none; must-fail edits: 12 refused; done in this run: all'
+echo '3 passed, 0 failed'";
 const RT_FAILS: &str = "echo '2 passed, 1 failed'\nexit 1";
 
-const CARGO_PASSES: &str = "echo 'test result: ok. 7 passed; 0 failed; 0 ignored'";
+/// The tests are told that `rt ci` has built the programs.
+const CARGO_PASSES: &str = "[ \"$SLOTPLAN_PROVED\" = 1 ] || exit 8
+echo 'test result: ok. 7 passed; 0 failed; 0 ignored'";
 const CARGO_FAILS: &str = "echo 'test result: FAILED. 6 passed; 1 failed; 0 ignored'\nexit 101";
 
 /// A repository with the script, and a folder with all commands that it can find.
@@ -36,9 +41,7 @@ impl Tree {
         }
         let tree = Tree { folder };
         fs::copy(top().join(".ci/run"), tree.script()).unwrap();
-        for tool in TOOLS {
-            symlink(path_of(tool), tree.part("commands").join(tool)).unwrap();
-        }
+        link_programs(&TOOLS, &tree.part("commands"));
         tree.write_command("rt", "ci", rt);
         let arguments = "test --quiet --manifest-path host/Cargo.toml";
         tree.write_command("cargo", arguments, cargo);
@@ -54,25 +57,12 @@ impl Tree {
         self.part("repository/.ci/run")
     }
 
-    /// A command that is to be called with these arguments, at the top of the repository. A shell of its own writes the file: while this process has a
-    /// file open for writing, so may a program that another test starts at that moment, and then the file cannot be run.
+    /// A command that is to be called with these arguments, at the top of the repository.
     fn write_command(&self, name: &str, arguments: &str, text: Option<&str>) {
-        let Some(text) = text else {
-            return;
-        };
-        let path = self.part("commands").join(name);
-        let text =
-            format!("#!/bin/sh\n[ \"$*\" = '{arguments}' ] && [ -x .ci/run ] || exit 9\n{text}\n");
-        let mut shell = Command::new("sh")
-            .args(["-c", "cat > \"$0\" && chmod +x \"$0\""])
-            .arg(path)
-            .stdin(Stdio::piped())
-            .spawn()
-            .unwrap();
-        let mut input = shell.stdin.take().unwrap();
-        input.write_all(text.as_bytes()).unwrap();
-        drop(input);
-        assert!(shell.wait().unwrap().success());
+        if let Some(text) = text {
+            let text = format!("[ \"$*\" = '{arguments}' ] && [ -x .ci/run ] || exit 9\n{text}");
+            write_script(&self.part("commands").join(name), &text);
+        }
     }
 
     /// The script called from another folder.
@@ -94,15 +84,6 @@ impl Tree {
     }
 }
 
-/// Where the path of this process has the program.
-fn path_of(program: &str) -> PathBuf {
-    let path = env::var_os("PATH").unwrap();
-    let found = env::split_paths(&path).find(|folder| folder.join(program).is_file());
-    found
-        .unwrap_or_else(|| panic!("no {program} on the path"))
-        .join(program)
-}
-
 fn text(bytes: &[u8]) -> String {
     String::from_utf8_lossy(bytes).into_owned()
 }
@@ -119,7 +100,7 @@ fn the_last_line_is_that_of_rt_if_all_pass() {
     let printed = text(&output.stdout);
     let lines: Vec<&str> = printed.lines().collect();
     let of_cargo = "test result: ok. 7 passed; 0 failed; 0 ignored";
-    assert_eq!(lines, ["proved", VERDICT, of_cargo, VERDICT]);
+    assert_eq!(lines, ["proved", OK, VERDICT, of_cargo, VERDICT]);
     assert_eq!(text(&output.stderr), "");
 }
 
@@ -128,6 +109,12 @@ fn the_last_line_is_that_of_rt_if_all_pass() {
 fn a_failure_of_any_command_fails_without_the_verdict_as_last_line() {
     let passes_and_fails = format!("{RT_PASSES}\nexit 3");
     let with_verdict = "echo '7 passed, 0 failed'\nexit 101";
+    let bad_edit = RT_PASSES.replace("12 refused;", "11 refused, 1 bad;");
+    let bad_edits = RT_PASSES.replace(
+        "12 refused;",
+        "2 refused, 1 of them only by a limit, 10 bad;",
+    );
+    let told_of_none = format!("echo proved\necho '{VERDICT}'");
     let [rt, cargo, gcc] = [Some(RT_PASSES), Some(CARGO_PASSES), Some("")];
     let cases = [
         ("rt", [Some(RT_FAILS), cargo, gcc], "rt ci failed"),
@@ -137,6 +124,21 @@ fn a_failure_of_any_command_fails_without_the_verdict_as_last_line() {
             "rt ci failed",
         ),
         ("signal", [Some("kill -9 $$"), cargo, gcc], "rt ci failed"),
+        (
+            "bad_edit",
+            [Some(&bad_edit), cargo, gcc],
+            "rt ci told of edits that are bad",
+        ),
+        (
+            "bad_edits",
+            [Some(&bad_edits), cargo, gcc],
+            "rt ci told of edits that are bad",
+        ),
+        (
+            "not_ok",
+            [Some(&told_of_none), cargo, gcc],
+            "rt ci did not tell that all is well",
+        ),
         (
             "tests",
             [rt, Some(CARGO_FAILS), gcc],
@@ -169,16 +171,21 @@ fn a_failure_of_any_command_fails_without_the_verdict_as_last_line() {
         let last = printed.lines().last().unwrap();
         assert!(!is_verdict(last), "{name}: {printed}");
         let is_shown = printed.lines().any(|line| line == VERDICT);
-        let is_expected = commands[0].is_some_and(|rt| rt.starts_with(RT_PASSES));
+        let is_expected = commands[0].is_some_and(|rt| rt.contains(VERDICT));
         assert_eq!(is_shown, is_expected, "{name}: {printed}");
     }
 }
 
-/// Without cargo or gcc nothing is tested.
+/// Without cargo or gcc nothing is tested, nor where an edit is bad.
 #[test]
 fn tests_are_run_only_after_rt_has_passed_and_where_gcc_is() {
     let tells = "echo tested";
-    for (name, rt, gcc) in [("after", RT_FAILS, Some("")), ("without", RT_PASSES, None)] {
+    let bad_edit = RT_PASSES.replace("12 refused;", "11 refused, 1 bad;");
+    for (name, rt, gcc) in [
+        ("after", RT_FAILS, Some("")),
+        ("edits", &bad_edit, Some("")),
+        ("without", RT_PASSES, None),
+    ] {
         let output = Tree::new(name, [Some(rt), Some(tells), gcc]).run();
         assert!(!text(&output.stdout).contains("tested"), "{name}");
     }
@@ -194,6 +201,7 @@ until [ -e seen ]; do
     sleep 0.1
     count=$((count + 1))
 done
+echo 'rt: ok; handles allowed: none'
 echo '1 passed, 0 failed'";
     let tree = Tree::new("shown", [Some(waits), Some(CARGO_PASSES), Some("")]);
     let mut gate = tree.gate().stdout(Stdio::piped()).spawn().unwrap();
