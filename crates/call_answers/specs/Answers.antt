@@ -1,5 +1,5 @@
 -- What is shown of a site and its counters while calls are made on them, as pieces of text.
-use Rattle.std.specs.Prelude.{ℕ, ◌+◌, ◌*◌, cond, List, ◌∷◌, leb, length, get_or, take, drop}
+use Rattle.std.specs.Prelude.{ℕ, ◌+◌, ◌*◌, cond, List, ◌∷◌, leb, length, get_or, take, drop, []}
 use Rattle.rulings.specs.Outcome.{Outcome, accepted, refused}
 use Rattle.site.specs.declared.Site.{Site}
 use Rattle.site.specs.Sites.{live}

@@ -1,6 +1,6 @@
 use borrow.Author.Rules.{rules}
 use mathlib.Core.Path.{refl}
-use mathlib.Core.List.{◌++◌}
+use mathlib.Core.List.{◌++◌, []}
 use Rattle.rehearsal.proofs.Laws.Runs.{goes_none, goes_then}
 use Rattle.rehearse.proofs.answer_input.Goals as goal
 

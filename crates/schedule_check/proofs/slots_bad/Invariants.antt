@@ -1,4 +1,5 @@
 -- Right because `long` or `late` says whether some link before index i has bad slots; n - i falls.
+use mathlib.Core.Bool.{◌||◌}
 use Prim.Native.Nat.{◌-◌}
 use Rattle.lists.specs.Search.{any}
 use Rattle.schedule_check.specs.Check.{bad_at}

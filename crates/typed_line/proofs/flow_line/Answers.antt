@@ -2,7 +2,7 @@
 use Prim.Native.Nat.{ℕ}
 use mathlib.Core.Bool.{not}
 use mathlib.Core.Path.{refl, ap}
-use mathlib.Core.List.{List, ◌∷◌}
+use mathlib.Core.List.{List, ◌∷◌, []}
 use lib.ListN.{drop}
 use Rattle.line_words.specs.Words.{words_of}
 use Rattle.typed_line.specs.Lines.{flow_widths}
