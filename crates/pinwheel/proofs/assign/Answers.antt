@@ -17,24 +17,24 @@ pub returns-then-offsets-n : goal.returns-then-offsets-n
 returns-then-offsets-n c = refuse_offsets _ _ _ _ c.if-offsets-n.true
 
 pub returns-then-periods-n : goal.returns-then-periods-n
-returns-then-periods-n c = refuse_periods _ _ _ _ c.if-offsets-n.false c.if-periods-n.true
+returns-then-periods-n c = refuse_periods _ _ _ _ (omega arith) c.if-periods-n.true
 
 pub returns-then-n-eq0 : goal.returns-then-n-eq0
-returns-then-n-eq0 c = refuse_none _ _ _ _ c.if-offsets-n.false c.if-periods-n.false c.if-n-eq0.true
+returns-then-n-eq0 c = refuse_none _ _ _ _ (omega arith) (omega arith) c.if-n-eq0.true
 
 pub returns-then-n-gt63 : goal.returns-then-n-gt63
-returns-then-n-gt63 c = refuse_many _ _ _ _ c.if-offsets-n.false c.if-periods-n.false c.if-n-gt63.true
+returns-then-n-gt63 c = refuse_many _ _ _ _ (omega arith) (omega arith) c.if-n-gt63.true
 
 pub returns-then-bad-n : goal.returns-then-bad-n
 returns-then-bad-n c =
-    refuse_gap _ _ _ _ c.if-offsets-n.false c.if-periods-n.false c.if-n-eq0.false
+    refuse_gap _ _ _ _ (omega arith) (omega arith) c.if-n-eq0.false
     c.if-n-gt63.false _ c.first_bad-bad.ensures c.if-bad-n.true
 
 pub returns-then-base-eq0 : goal.returns-then-base-eq0
 returns-then-base-eq0 c =
     let good : Good c.args.gaps.now c.args.offsets.now c.args.periods.now = record {
-      offsets_long = c.if-offsets-n.false;
-      periods_long = c.if-periods-n.false;
+      offsets_long = omega arith;
+      periods_long = omega arith;
       some = omega arith;
       few = c.if-n-gt63.false;
       limits = λ i l. gap_limits c.args.gaps.now i (omega (arith, c.first_bad-bad.ensures));
@@ -45,8 +45,8 @@ returns-then-base-eq0 c =
 pub fill-requires : goal.fill-requires
 fill-requires c =
     let good : Good c.args.gaps.now c.args.offsets.now c.args.periods.now = record {
-      offsets_long = c.if-offsets-n.false;
-      periods_long = c.if-periods-n.false;
+      offsets_long = omega arith;
+      periods_long = omega arith;
       some = omega arith;
       few = c.if-n-gt63.false;
       limits = λ i l. gap_limits c.args.gaps.now i (omega (arith, c.first_bad-bad.ensures));
@@ -63,8 +63,8 @@ pub fill-requires-2 : goal.fill-requires-2
 unfolding periods_of
 fill-requires-2 c =
     let good : Good c.args.gaps.now c.args.offsets.now c.args.periods.now = record {
-      offsets_long = c.if-offsets-n.false;
-      periods_long = c.if-periods-n.false;
+      offsets_long = omega arith;
+      periods_long = omega arith;
       some = omega arith;
       few = c.if-n-gt63.false;
       limits = λ i l. gap_limits c.args.gaps.now i (omega (arith, c.first_bad-bad.ensures));
@@ -81,8 +81,8 @@ pub returns : goal.returns
 unfolding offsets_of periods_of
 returns c =
     let good : Good c.args.gaps.now c.args.offsets.now c.args.periods.now = record {
-      offsets_long = c.if-offsets-n.false;
-      periods_long = c.if-periods-n.false;
+      offsets_long = omega arith;
+      periods_long = omega arith;
       some = omega arith;
       few = c.if-n-gt63.false;
       limits = λ i l. gap_limits c.args.gaps.now i (omega (arith, c.first_bad-bad.ensures));

@@ -15,14 +15,11 @@ earlier-init c =
     let all : n - 0 ≡ n = omega arith in
     record { same = refl; below = c.if-candidate-p.false; answer = c.search.invariant; upto = omega arith; none = rw all }
 
-pub nonzero_rem-candidate : goal.nonzero_rem-candidate
-nonzero_rem-candidate c = c.requires.1 _ c.earlier-test.true
-
 pub search-preserved : goal.search-preserved
 unfolding sends
 search-preserved c =
     let try = c.earlier.invariant in
-    let hit = any_hit _ _ _ c.earlier-test.true (eq-eqb _ _ c.if-candidate-steps.true) in
+    let hit = any_hit _ _ _ c.earlier-test.true (eq-eqb _ _ (omega arith)) in
     try.answer ∙ first_miss _ _ _ try.below (ap not (try.none ∙ hit))
 
 pub earlier-preserved : goal.earlier-preserved
@@ -34,7 +31,7 @@ earlier-preserved c =
       below = try.below;
       answer = try.answer;
       upto = omega arith;
-      none = try.none ∙ any_miss _ _ _ c.earlier-test.true (ne_eqb _ _ c.if-candidate-steps.false);
+      none = try.none ∙ any_miss _ _ _ c.earlier-test.true (ne_eqb _ _ (omega arith));
     }
 
 pub returns-then-candidate-p : goal.returns-then-candidate-p
