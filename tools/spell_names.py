@@ -182,4 +182,8 @@ def write(path, old, new):
             f.write(new)
 
 
-main()
+if __name__ == "__main__":
+    # A second run would take a definition for the law that has given way to it.
+    if os.path.exists(os.path.join(TOP, "docs", "PORT.md")) and "--show" not in sys.argv:
+        sys.exit("tools/spell_names.py: the names were spelled already (docs/PORT.md)")
+    main()

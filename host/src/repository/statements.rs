@@ -169,7 +169,7 @@ const CLAIMS: &str = "\
 - **flows are kept** (`rule`, `desk/specs/Calls`)
   - Definition: `Kept`, `admit_of`, in `host statements`; `(given, cells) ≡ admit_of flow
     cells`
-  - Law: `each_kept`, `both_kept`, `one_kept`, `call_kept`
+  - Promise or law: `each_kept`, `both_kept`, `one_kept`, `call_kept`
   - Refused edit: `kept_by_nobody`, the edits `kept_..`; prints ` equal` and `FF`
 - **`desk::admit`, `plain`**
 ";
@@ -486,11 +486,18 @@ fn a_name_that_nothing_has_is_told() {
     let small = Small::new("names");
     assert_eq!(small.faults(), [""; 0]);
     let no_name = "no definition, law, edit, function or crate";
+    let no_promise = "no definition, law, function or crate";
     let no_definition = "no definition in specs/, law or crate";
     let cases = [
-        ("`each_kept`,", "`each_lost`,", "`each_lost`", no_name),
-        ("`each_kept`,", "`each-kept`,", "`each-kept`", no_name),
-        ("`each_kept`,", "`hidden_law`,", "`hidden_law`", no_name),
+        ("`each_kept`,", "`each_lost`,", "`each_lost`", no_promise),
+        ("`each_kept`,", "`each-kept`,", "`each-kept`", no_promise),
+        ("`each_kept`,", "`hidden_law`,", "`hidden_law`", no_promise),
+        (
+            "`each_kept`,",
+            "`each_kept`, `kept_by_nobody`,",
+            "`kept_by_nobody`",
+            no_promise,
+        ),
         (
             "`Kept`",
             "`Lost`",
@@ -569,7 +576,7 @@ fn a_name_that_nothing_has_is_told() {
 #[test]
 fn what_is_gone_is_told() {
     let small = Small::new("gone");
-    let expected = ["docs/CLAIMS.md: `one_kept`: no definition, law, edit, function or crate"];
+    let expected = ["docs/CLAIMS.md: `one_kept`: no definition, law, function or crate"];
     for new in [
         "",
         "  one_kept : Kept f\n",

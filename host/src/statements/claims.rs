@@ -6,11 +6,20 @@ use std::collections::BTreeSet;
 
 pub const PATH: &str = "docs/CLAIMS.md";
 
+/// What an item says of itself by its first word.
+#[derive(Clone, Copy, PartialEq)]
+enum Subject {
+    /// `Definition:`.
+    Definitions,
+    /// `Promise or law:`, where no edit states anything.
+    Promises,
+    Other,
+}
+
 /// A paragraph, an item of a list, or a row of a table.
 pub struct Block {
     names: Vec<String>,
-    /// An item that begins with `Definition:`.
-    is_of_definitions: bool,
+    subject: Subject,
 }
 
 type Blocks = Vec<Block>;
@@ -32,14 +41,23 @@ fn names_of(lines: &[&str]) -> Result<Vec<String>, String> {
     Ok(names.map(|name| name.to_string()).collect())
 }
 
+fn subject_of(line: &str) -> Subject {
+    if line.starts_with("- Definition:") {
+        Subject::Definitions
+    } else if line.starts_with("- Promise or law:") {
+        Subject::Promises
+    } else {
+        Subject::Other
+    }
+}
+
 pub fn blocks(page: &str) -> Result<Blocks, String> {
     let lines: Vec<&str> = page.lines().collect();
     let blocks = lines.chunk_by(|_, next| !begins_block(next));
     let block = |lines: &[&str]| {
-        let first = lines[0].trim_start();
         Ok(Block {
             names: names_of(lines)?,
-            is_of_definitions: first.starts_with("- Definition:"),
+            subject: subject_of(lines[0].trim_start()),
         })
     };
     blocks.map(block).collect()
@@ -75,7 +93,7 @@ const STATED: [Kind; 5] = [
 ];
 
 /// What a single name should be and is not. Letters that stand for themselves and bytes such as `FF` are no names.
-fn fault_of_name(name: &str, is_of_definitions: bool, known: &Known) -> Option<&'static str> {
+fn fault_of_name(name: &str, subject: Subject, known: &Known) -> Option<&'static str> {
     use Kind::{Constructor, Crate, Definition, Edit, Field, Function, Type};
     let (holds, told) = if name.contains('/') || name.ends_with(".antt") {
         (known.has_path(name), "no file or folder")
@@ -84,9 +102,12 @@ fn fault_of_name(name: &str, is_of_definitions: bool, known: &Known) -> Option<&
         (holds, "no public function of that crate")
     } else if let Some(front) = name.strip_suffix("..") {
         (known.has_edit_of_front(front), "no edit begins so")
-    } else if is_joined(name) && is_of_definitions {
+    } else if is_joined(name) && subject == Subject::Definitions {
         let holds = known.is(&STATED, name) || known.is(&[Crate], name);
         (holds, "no definition in specs/, law or crate")
+    } else if is_joined(name) && subject == Subject::Promises {
+        let holds = known.is(&STATED, name) || known.is(&[Function, Crate], name);
+        (holds, "no definition, law, function or crate")
     } else if is_joined(name) {
         let holds = known.is(&STATED, name) || known.is(&[Edit, Function, Crate], name);
         (holds, "no definition, law, edit, function or crate")
@@ -101,14 +122,14 @@ fn fault_of_name(name: &str, is_of_definitions: bool, known: &Known) -> Option<&
 }
 
 /// Of a name, of `host` with a command, or of an expression: there only names of laws, of definitions and of types are judged.
-fn fault(name: &str, is_of_definitions: bool, known: &Known) -> Option<&'static str> {
+fn fault(name: &str, subject: Subject, known: &Known) -> Option<&'static str> {
     if let Some(command) = name.strip_prefix("host ") {
         let command = command.split(' ').next().unwrap_or_default();
         let holds = known.is(&[Kind::Command], command);
         return (!holds).then_some("no command of host");
     }
     if !name.contains(' ') {
-        return fault_of_name(name, is_of_definitions, known);
+        return fault_of_name(name, subject, known);
     }
     let mut names = words(name).filter(|word| is_joined(word) || has_both_cases(word));
     let is_stated = names.all(|name| known.is(&STATED, name));
@@ -119,7 +140,7 @@ fn fault(name: &str, is_of_definitions: bool, known: &Known) -> Option<&'static 
 pub fn faults(blocks: &Blocks, known: &Known) -> Vec<String> {
     let faults_of = |block: &Block| {
         let fault = |name: &String| {
-            let told = fault(name, block.is_of_definitions, known)?;
+            let told = fault(name, block.subject, known)?;
             Some(format!("{PATH}: `{name}`: {told}"))
         };
         block.names.iter().filter_map(fault).collect::<Vec<_>>()
