@@ -7,7 +7,12 @@ use crate::programs::running::{run, Printed};
 use crate::repository::built::built_programs;
 use crate::repository::places::{read, top};
 use crate::second::typed::assemble;
+use std::io::{Read, Write};
 use std::path::{Path, PathBuf};
+use std::process::{Command, Stdio};
+use std::sync::mpsc::channel;
+use std::thread;
+use std::time::Duration;
 
 /// The programs that take no argument and read standard input alone, with what they tell of an argument, or how that begins.
 const WITHOUT_ARGUMENTS: [(&str, &str); 5] = [
@@ -64,6 +69,42 @@ fn rehearse_tells_a_wrong_argument_in_one_line() {
     assert_eq!(told(REHEARSE, &[&plan, &plan]), USAGE);
     let missing = top().join("samples/none.plan");
     assert_eq!(told(REHEARSE, &[&missing]), cannot_open(&missing));
+}
+
+/// Each answer comes while more may be typed: the input stays open until the last one has been read.
+#[test]
+fn rehearse_answers_each_line_when_it_is_typed() {
+    let plan = sample_plan();
+    let mut child = Command::new(built_programs().join(REHEARSE))
+        .arg(&plan)
+        .stdin(Stdio::piped())
+        .stdout(Stdio::piped())
+        .spawn()
+        .unwrap();
+    let (mut stdin, mut stdout) = (child.stdin.take().unwrap(), child.stdout.take().unwrap());
+    let (sender, receiver) = channel();
+    thread::spawn(move || {
+        let mut part = [0; 4096];
+        while let Ok(length @ 1..) = stdout.read(&mut part) {
+            if sender.send(part[..length].to_vec()).is_err() {
+                break;
+            }
+        }
+    });
+    let (mut typed, mut printed) = (Vec::new(), Vec::new());
+    for piece in ["bound 0\n", "cells 0\nbou", "nd 0\n", "plan\n"] {
+        stdin.write_all(piece.as_bytes()).unwrap();
+        typed.extend_from_slice(piece.as_bytes());
+        let whole = typed.iter().rposition(|byte| *byte == b'\n').unwrap() + 1;
+        let expected = rehearse(Some(&read(&plan)), &typed[..whole]).0.into_bytes();
+        while printed.len() < expected.len() {
+            let part = receiver.recv_timeout(Duration::from_secs(20));
+            printed.extend(part.unwrap_or_else(|_| panic!("no answer to {piece:?}")));
+        }
+        assert_eq!(printed, expected, "{piece:?}");
+    }
+    drop(stdin);
+    assert!(child.wait().unwrap().success());
 }
 
 /// A folder can be opened and has no bytes, so it is a plan without END.

@@ -626,7 +626,7 @@ fn a_backquote_without_another_is_told() {
     let told = |small: &Small| statements(&small.0 .0).unwrap_err();
     let told = small.with(CLAIMS_PATH, "`one_kept`", "`one_kept", told);
     assert!(
-        told.starts_with("docs/CLAIMS.md: a backquote without another: - Law: "),
+        told.starts_with("docs/CLAIMS.md: a backquote without another: - Promise or law: "),
         "{told}"
     );
 }
