@@ -1,7 +1,8 @@
 -- What every operation comes to, in the terms of 01's tables of refusals.
-use Rattle.std.specs.Prelude.{ℕ, cond, ◌≡◌, ◌⊎◌, eqb}
-use Rattle.rulings.specs.declared.Verdict.{Verdict}
-use Rattle.rulings.specs.declared.Verdict.TheVariants.{Accepted, Refused}
+use Rattle.std.specs.Prelude.{ℕ, cond, ◌≡◌, ◌⊎◌, eqb, Result, Ok, Err, Option, Some, None}
+use Rattle.rulings.specs.declared.Fault.{Fault}
+use Rattle.rulings.specs.declared.Fault.TheVariants.{WrongLength, CutOff, UnknownCommand, NodeBehindFlow, OutsideLimits, OutOfPlace, TooManyNodes, TooDeep, BytesBehindEnd, Crowded, AboveCapacity, AboveDeadline, NoSite, NumberLive, NumberNotLive, NoRoom, TooLate, TooManyPackets, StrayArrivals, LinkOutOfOrder, SlotsOutside}
+use Rattle.rulings.specs.declared.Refusal.{Refusal}
 
 -- Accepted, with what the operation gives, or refused with a number and a place.
 pub data Outcome (A : Type 0) : Type 0 where
@@ -54,7 +55,36 @@ Ruled gives (check number fails rest) o = FailsAt number fails o ⊎ (Passed fai
 abbrev pub nothing : Unit {0} → Type 0
 nothing a = Unit {0}
 
--- What each case of a verdict says in 01's terms; what an accepted call gives stands beside it.
-abbrev pub ruling : Verdict → Ruling
-ruling Accepted = accepted tt
-ruling (Refused number place) = refused number place
+-- 01 and 02: the number of each fault in their tables of refusals.
+abbrev pub number_of : Fault → ℕ
+number_of WrongLength = 1
+number_of CutOff = 2
+number_of UnknownCommand = 3
+number_of NodeBehindFlow = 4
+number_of OutsideLimits = 5
+number_of OutOfPlace = 6
+number_of TooManyNodes = 7
+number_of TooDeep = 8
+number_of BytesBehindEnd = 10
+number_of Crowded = 11
+number_of AboveCapacity = 12
+number_of AboveDeadline = 13
+number_of NoSite = 14
+number_of NumberLive = 15
+number_of NumberNotLive = 16
+number_of NoRoom = 17
+number_of TooLate = 18
+number_of TooManyPackets = 19
+number_of StrayArrivals = 20
+number_of LinkOutOfOrder = 21
+number_of SlotsOutside = 22
+
+-- What an answer says in 01's terms: what an accepted call gives, or the number and the place of a refusal.
+abbrev pub outcome : {A : Type 0} → Result A Refusal → Outcome A
+outcome (Ok a) = accepted a
+outcome (Err r) = refused (number_of r.fault) r.place
+
+-- The number of what a check finds at fault, 0 where it finds nothing.
+abbrev pub fault_number : {A : Type 0} → Result A Fault → ℕ
+fault_number (Ok a) = 0
+fault_number (Err f) = number_of f
