@@ -5,17 +5,15 @@ ghost use Rattle.std.specs.Prelude.{◌≡◌, length};
 ghost use Rattle.counters.specs.Blocks.{zeros, cleared};
 
 // Sets all cells that are lent to 0.
+#[tactic(auto, unfolding(crate::specs::Blocks::zeros))]
 pub fn clear(cells: &mut [u32])
     ensures { cells.new ≡ zeros (length cells.old) }
 {
-    let mut i = 0;
-    while i < cells.len() {
-        cells[i] = 0;
-        i += 1;
-    }
+    cells.fill(0);
 }
 
 // Sets the nine cells of a flow number to 0, if the counters have them. They are lent on from where they stand.
+#[tactic(auto, using(crate::proofs::Laws::flow_cleared, crate::proofs::Laws::flow_absent))]
 pub fn clear_flow(counters: &mut [u32], number: u8)
     ensures { counters.new ≡ cleared number counters.old }
 {
