@@ -7,7 +7,9 @@ use native.Mathlib.Nat.{eq-or-lt_of_le}
 use native.Mathlib.Numerals.{add-one}
 use native.Mathlib.Decide.{dec_lt}
 use native.Mathlib.Omega.{arith}
-use Rattle.lists.specs.Search.{last, first, first_in, any}
+use Rattle.std.specs.Prelude.{Some, None}
+use borrow.Author.Tests.{lt-ltb, le-ltb}
+use Rattle.lists.specs.Search.{last, first, first_in, any, some_below, some_of}
 
 pub lt_or_le : (a b : ℕ) → (a < b) ⊎ (b ≤ a)
 lt_or_le a b = elim (dec_lt a b) [ yes l ↦ inl l | no m ↦ inr (omega arith) ]
@@ -196,3 +198,37 @@ module _ (p q : ℕ → Bool) where
   unfolding first
   first_ext zero c h = refl
   first_ext (suc r) c h = rw (h c, first_ext r (c + 1) h)
+
+-- A number that is 0 where there is none, and what a search found that ends with n where there is none: the option from the number, and back.
+pub some_when : (k : ℕ) → 1 ≤ k → Some k ≡ some_of k
+some_when zero l = absurd (omega arith)
+some_when (suc k) l = refl
+
+pub some_is : (k x : ℕ) → Some x ≡ some_of k → (x ≡ k) × (1 ≤ k)
+some_is zero x e = cc
+some_is (suc k) x e = (cc, omega arith)
+
+pub none_is : (k : ℕ) → None ≡ some_of k → k ≡ 0
+none_is zero e = refl
+none_is (suc k) e = cc
+
+module _ (n k : ℕ) where
+  pub below_when : k < n → Some k ≡ some_below n k
+  below_when l = simp (lt-ltb _ _ l)
+
+  pub past_when : n ≤ k → None ≡ some_below n k
+  past_when l = simp (le-ltb _ _ l)
+
+  pub below_is : (x : ℕ) → Some x ≡ some_below n k → (x ≡ k) × (k < n)
+  below_is x e = go (lt_or_le k n)
+    where
+      go : (k < n) ⊎ (n ≤ k) → (x ≡ k) × (k < n)
+      go (inl l) = let q = below_when l in (cc, l)
+      go (inr m) = let q = past_when m in cc
+
+  pub past_is : None ≡ some_below n k → n ≤ k
+  past_is e = go (lt_or_le k n)
+    where
+      go : (k < n) ⊎ (n ≤ k) → n ≤ k
+      go (inl l) = let q = below_when l in cc
+      go (inr m) = m
