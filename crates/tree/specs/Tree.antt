@@ -1,5 +1,10 @@
 -- 01, The site: a tree whose root, the server, is node 0. The list of parents has node n's parent at index n - 1.
-use Rattle.std.specs.Prelude.{ℕ, zero, suc, ◌+◌, Bool, true, false, cond, List, [], ◌∷◌, eqb, ltb, get_or}
+use Rattle.std.specs.Prelude.{ℕ, zero, suc, ◌+◌, Bool, true, false, cond, List, [], ◌∷◌, eqb, ltb, get_or, Option, None, slice_get}
+
+-- What a list that has node n's entry at index n - 1 has for a node; none for the root.
+abbrev pub entry_of : {A : Type 0} → List A → ℕ → Option A
+entry_of xs zero = None
+entry_of xs (suc i) = slice_get xs i
 
 -- The parent of a node. The root, and a number beyond the list, are their own.
 unfoldable pub up : List ℕ → ℕ → ℕ

@@ -8,38 +8,33 @@ use lib.Dec.{eqb, ltb}
 use lib.ListN.{length, get_or, get_or-eq_default}
 use borrow.Author.Tests.{lt-ltb, le-ltb, eq-eqb, ltb-true, eqb-true}
 use native.Mathlib.Omega.{arith}
+use Rattle.std.specs.Option.{unwrap_or}
+use Rattle.std.proofs.lemmas.Option.{unwrap_or-slice_get}
+use Rattle.std.proofs.lemmas.List.{get_or_default}
 use Rattle.lists.proofs.Laws.Search.{lt_or_le}
-use Rattle.tree.specs.Tree.{of_link, up, depth_in, depth_of, climb, route, has}
+use Rattle.tree.specs.Tree.{of_link, up, entry_of, depth_in, depth_of, climb, route, has}
 use Rattle.tree.specs.Words.{Leads, root, link}
 use Rattle.rulings.proofs.Laws.Choices.{cond_same}
 
--- Within a list it does not matter what stands for the entries beyond it.
-get_or_within : (xs : List ℕ) (i d e : ℕ) → i < length xs → get_or xs i d ≡ get_or xs i e
-get_or_within [] i d e l = absurd (omega arith)
-get_or_within (x ∷ xs) zero d e l = refl
-get_or_within (x ∷ xs) (suc i) d e l = get_or_within xs i d e (omega arith)
-
--- What a list of links holds for a node: nothing for the root and beyond the list, the entry one below the number else.
-pub link_root : (xs : List ℕ) (n : ℕ) → n ≡ 0 → 0 ≡ of_link xs n
+-- What a list has for a node, with a value for those that it has none for.
+pub link_or : (xs : List ℕ) (n : ℕ) → unwrap_or (entry_of xs n) 0 ≡ of_link xs n
 unfolding of_link
-link_root xs n e = rw e
+link_or xs zero = refl
+link_or xs (suc i) = unwrap_or-slice_get xs i 0
 
-pub link_out : (xs : List ℕ) (n : ℕ) → 0 < n → length xs ≤ n - 1 → 0 ≡ of_link xs n
-unfolding of_link
-link_out xs zero o l = absurd (omega arith)
-link_out xs (suc i) o l = sym (get_or-eq_default xs 0 {n = i} (omega arith))
+pub up_or : (p : List ℕ) (n : ℕ) → unwrap_or (entry_of p n) n ≡ up p n
+unfolding up
+up_or p zero = refl
+up_or p (suc i) = unwrap_or-slice_get p i (suc i)
 
+-- Of a link of the list that is the entry one below its number.
 pub link_in : (xs : List ℕ) (n : ℕ) → 0 < n → get_or xs (n - 1) 0 ≡ of_link xs n
 unfolding of_link
 link_in xs zero o = absurd (omega arith)
 link_in xs (suc i) o = let e : suc i - 1 ≡ i = omega arith in rw e
 
 module _ (p : List ℕ) where
-  pub up_root : (n : ℕ) → n ≡ 0 → 0 ≡ up p n
-  unfolding up
-  up_root n e = rw e
-
-  pub up_out : (n : ℕ) → 0 < n → length p ≤ n - 1 → n ≡ up p n
+  up_out : (n : ℕ) → 0 < n → length p ≤ n - 1 → n ≡ up p n
   unfolding up
   up_out zero o l = absurd (omega arith)
   up_out (suc i) o l = sym (get_or-eq_default p (suc i) {n = i} (omega arith))
@@ -47,7 +42,7 @@ module _ (p : List ℕ) where
   pub up_in : (n : ℕ) → 0 < n → n - 1 < length p → get_or p (n - 1) 0 ≡ up p n
   unfolding up
   up_in zero o l = absurd (omega arith)
-  up_in (suc i) o l = let e : suc i - 1 ≡ i = omega arith in rw e (get_or_within p i 0 (suc i) (omega arith))
+  up_in (suc i) o l = let e : suc i - 1 ≡ i = omega arith in rw e (get_or_default p i 0 (suc i) (omega arith))
 
   -- Only a node of the list has a way up.
   pub up_within : (n : ℕ) → up p n < n → n ≤ length p
@@ -188,3 +183,6 @@ module _ (p q : List ℕ) where
 
   pub depth_same : (n : ℕ) → ((m : ℕ) → m ≤ n → up p m ≡ up q m) → depth_of p n ≡ depth_of q n
   depth_same n h = rw (depth_route p n, depth_route q n, route_same n h)
+
+-- What the depth of a node needs.
+pub ruleset depths = (depth_end, depth_up, depth_le)
