@@ -1,5 +1,5 @@
 -- What every operation comes to, in the terms of 01's tables of refusals.
-use Rattle.std.specs.Prelude.{ℕ, cond, ◌≡◌, ◌⊎◌, eqb, Result, Ok, Err, Option, Some, None}
+use Rattle.std.specs.Prelude.{ℕ, cond, ◌≡◌, ◌⊎◌, eqb, Result, Ok, Err}
 use Rattle.rulings.specs.declared.Fault.{Fault}
 use Rattle.rulings.specs.declared.Fault.TheVariants.{WrongLength, CutOff, UnknownCommand, NodeBehindFlow, OutsideLimits, OutOfPlace, TooManyNodes, TooDeep, BytesBehindEnd, Crowded, AboveCapacity, AboveDeadline, NoSite, NumberLive, NumberNotLive, NoRoom, TooLate, TooManyPackets, StrayArrivals, LinkOutOfOrder, SlotsOutside}
 use Rattle.rulings.specs.declared.Refusal.{Refusal}

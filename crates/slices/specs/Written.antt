@@ -1,13 +1,6 @@
 -- What a writer leaves in a borrowed slice and answers, whatever it writes.
 use Rattle.std.specs.Prelude.{ℕ, Bool, cond, List, ◌++◌, ltb, leb, length, drop}
 use Rattle.rulings.specs.Outcome.{Outcome, accepted, refused}
-use Rattle.slices.specs.declared.Written.{Written}
-use Rattle.slices.specs.declared.Written.TheVariants.{Length, Refused}
-
--- What each case of a writer's answer says in the terms of 01's tables: the number of bytes written, or the number and place of a refusal.
-abbrev pub writing : Written → Outcome ℕ
-writing (Length n) = accepted n
-writing (Refused number place) = refused number place
 
 -- 01: a writer fills the front of the borrowed slice and keeps the rest. Too short a slice is 1, judged after all else.
 unfoldable pub written : List ℕ → List ℕ → Outcome ℕ × List ℕ

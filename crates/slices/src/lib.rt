@@ -1,21 +1,9 @@
-// Bytes put into a borrowed slice, two slices compared, and what a writer answers.
+// Bytes put into a borrowed slice, and two slices compared. What a writer answers is said in the definitions.
 #![tactic(auto)]
 
-ghost use Rattle.std.specs.Prelude.{◌≡◌, ◌+◌, ◌≤◌, ◌++◌, length, take, drop};
+ghost use Rattle.std.specs.Prelude.{◌≡◌};
 ghost use Rattle.slices.specs.Put.{put as put·};
 ghost use Rattle.lists.specs.Lists.{same as same·};
-
-// Apart from `put`, so that the test of room and the loop each have a function.
-fn store(out: &mut [u8], at: usize, word: &[u8])
-    requires { at + length word.now ≤ length out.old }
-    ensures { out.new ≡ take at out.old ++ word.now ++ drop (at + length word.now) out.old }
-{
-    let mut i = 0;
-    while i < word.len() {
-        out[at + i] = word[i];
-        i += 1;
-    }
-}
 
 // Puts the word behind the first `at` bytes, if there is room; answers how many are taken then, one more than there are without room.
 pub fn put(out: &mut [u8], at: usize, word: &[u8]) -> usize
@@ -29,30 +17,14 @@ pub fn put(out: &mut [u8], at: usize, word: &[u8]) -> usize
     if space - size < at {
         return space + 1;
     }
-    store(out, at, word);
+    out[at..at + size].copy_from_slice(word);
     at + size
 }
 
 // Names in typed text are compared byte by byte: a longer word is another one.
+#[tactic(auto, using(lists::proofs::Laws::Equal::same_test))]
 pub fn same(word: &[u8], name: &[u8]) -> bool
     ensures { result ≡ same· word.now name.now }
 {
-    if word.len() != name.len() {
-        return false;
-    }
-    let mut i = 0;
-    while i < word.len() {
-        if word[i] != name[i] {
-            return false;
-        }
-        i += 1;
-    }
-    true
-}
-
-// The number of bytes written, or the number and the place of a refusal.
-#[derive(Clone, Copy)]
-pub enum Written {
-    Length(usize),
-    Refused(u8, usize),
+    word == name
 }

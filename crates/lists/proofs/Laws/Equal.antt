@@ -5,6 +5,7 @@ use mathlib.Core.Bool.{Bool, true, false, ◌&&◌, false≢true}
 use mathlib.Core.List.{List, [], ◌∷◌}
 use mathlib.Core.Logic.{◌↔◌}
 use lib.Dec.{eqb}
+use lib.Pointwise.{pointwise}
 use lib.ListN.{length, get_or}
 use lib.Seq.{ext_get_or}
 use borrow.Author.Tests.{eq-eqb, eqb-true}
@@ -31,6 +32,14 @@ same_self (x ∷ xs) = rw (eq-eqb x x refl, same_self xs)
 
 pub same_when : (a b : List ℕ) → (same a b ≡ true) ↔ (a ≡ b)
 same_when a b = (same_equal a b, λ e. rw e (same_self b))
+
+-- It is the test by which the library compares two slices or arrays.
+pub same_test : (a b : List ℕ) → pointwise eqb a b ≡ same a b
+unfolding same
+same_test [] [] = refl
+same_test [] (y ∷ ys) = refl
+same_test (x ∷ xs) [] = refl
+same_test (x ∷ xs) (y ∷ ys) = rw (same_test xs ys)
 
 -- Two lists of which the first i entries are equal.
 pub record Alike (a b : List ℕ) (i : ℕ) : Type 0 where
