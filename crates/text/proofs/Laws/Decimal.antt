@@ -7,7 +7,7 @@ use mathlib.Core.Logic.{◌⊎◌, inl, inr}
 use lib.ListN.{length, get_or, take, length-append, get_or-append}
 use borrow.Author.Tests.{lt-ltb, le-ltb, le-leb}
 use native.Mathlib.Decide.{dec_lt}
-use native.Mathlib.Nat.{pow-suc, sub-zero}
+use native.Mathlib.Nat.{pow-suc}
 use native.Mathlib.Omega.{arith}
 use Rattle.io.specs.Digits.{last_digits, hex_digit_ascii, IsDigitCount}
 use Rattle.text.specs.Decimal.{digits_by, decimal, value_from, value_of, is_digit, all_digits, given, is_number}
@@ -145,5 +145,5 @@ fewest_decimal (suc (suc k)) n (a, l, m) =
     fewest_decimal (suc k) (n / 10) (omega arith, omega arith, λ s. subst (λ (j : ℕ). 10 ^ j ≤ n / 10) (omega arith) small) in
     ap (λ (ds : List ℕ). ds ++ (hex_digit_ascii (n % 10) ∷ [])) e ∙ rw (lt-ltb (n % 10) 10 (omega arith)) (sym (decimal_step n (omega arith)))
 
-pub spelled : (k n : ℕ) (ds : List ℕ) → take k ds ≡ last_digits 10 k n → IsDigitCount 10 1 n k → take (k - 0) ds ≡ decimal n
-spelled k n ds e f = rw (sub-zero k) (e ∙ fewest_decimal k n f)
+pub spelled : (k n : ℕ) (ds : List ℕ) → take k ds ≡ last_digits 10 k n → IsDigitCount 10 1 n k → take k ds ≡ decimal n
+spelled k n ds e f = e ∙ fewest_decimal k n f

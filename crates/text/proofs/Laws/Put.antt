@@ -16,13 +16,13 @@ pub puts_one : (s t : ℕ × List ℕ) (a : List ℕ) → t ≡ put s a → t �
 unfolding puts
 puts_one s t a e = e
 
-puts_append : (s : ℕ × List ℕ) (ps qs : List (List ℕ)) → puts (puts s ps) qs ≡ puts s (ps ++ qs)
+pub puts_append : (s : ℕ × List ℕ) (ps qs : List (List ℕ)) → puts s (ps ++ qs) ≡ puts (puts s ps) qs
 unfolding puts
 puts_append s [] qs = refl
 puts_append s (p ∷ ps) qs = puts_append (put s p) ps qs
 
 pub puts_then : (s t u : ℕ × List ℕ) (ps qs : List (List ℕ)) → t ≡ puts s ps → u ≡ puts t qs → u ≡ puts s (ps ++ qs)
-puts_then s t u ps qs e f = f ∙ ap (λ (x : ℕ × List ℕ). puts x qs) e ∙ puts_append s ps qs
+puts_then s t u ps qs e f = f ∙ ap (λ (x : ℕ × List ℕ). puts x qs) e ∙ sym (puts_append s ps qs)
 
 -- A field by the number that it says.
 pub field_as : (t : ℕ × List ℕ) (name : List ℕ) (n m : ℕ) → n ≡ m → puts t (name ∷ decimal n ∷ []) ≡ puts t (name ∷ decimal m ∷ [])
