@@ -1,5 +1,5 @@
 -- Text taken apart at the bytes that a test marks: lines at newlines, words at blanks.
-use Rattle.std.specs.Prelude.{ℕ, ◌≤◌, ◌<◌, min, ◌≡◌, Bool, true, false, cond, List, [], ◌∷◌, eqb, length, get_or}
+use Rattle.std.specs.Prelude.{ℕ, ◌≤◌, ◌<◌, min, ◌≡◌, Bool, true, false, cond, List, [], ◌∷◌, eqb, length, get_or, Option, MatchOption}
 use Rattle.lists.specs.Search.{first_in}
 
 -- A byte before the first of some parts.
@@ -37,3 +37,7 @@ pub record Reaches (mark : ℕ → Bool) (text : List ℕ) (from r : ℕ) : Type
   pub within : r ≤ length text
   pub passed : (i : ℕ) → from ≤ i → i < r → mark (get_or text i 0) ≡ false
   pub marked : r < length text → mark (get_or text r 0) ≡ true
+
+-- A search from `from` on finds that index, or nothing where it is the text's length.
+abbrev pub FoundFrom : (ℕ → Bool) → List ℕ → ℕ → Option ℕ → Type 0
+FoundFrom mark text from o = MatchOption o (Reaches mark text from (length text)) (λ at. (at < length text) × Reaches mark text from at)

@@ -1,8 +1,9 @@
 -- The words of a line, and those that are numbers.
-use Rattle.std.specs.Prelude.{ℕ, ◌-◌, ◌≤◌, min, ◌≡◌, Bool, true, false, cond, not, ◌||◌, List, [], ◌∷◌, eqb, length, get_or, take, drop}
+use Rattle.std.specs.Prelude.{ℕ, ◌-◌, ◌≤◌, ◌<◌, min, ◌≡◌, Bool, true, false, cond, not, ◌||◌, List, [], ◌∷◌, eqb, length, get_or, take, drop, Option, Some, None, MatchOption}
 use Rattle.text.specs.Decimal.{value_of, is_number}
 use Rattle.line_words.specs.Parts.{parts, reach}
 use Rattle.line_words.specs.declared.Operand.{Operand}
+use Rattle.line_words.specs.declared.Word.{Word}
 
 -- A space, a tab and a carriage return stand between words.
 unfoldable pub is_blank : ℕ → Bool
@@ -45,12 +46,17 @@ word_end line from = reach is_blank line (word_start line from)
 unfoldable pub word_at : List ℕ → ℕ → List ℕ
 word_at line from = take (word_end line from - word_start line from) (drop (word_start line from) line)
 
--- That word as a number of at most `most`, with the index behind it; where it is none, with the line's length, since no operand can follow.
-unfoldable pub operand_at : List ℕ → ℕ → ℕ → Operand
+-- That word as a number of at most `most`, with the index behind it, if it is one.
+unfoldable pub operand_at : List ℕ → ℕ → ℕ → Option Operand
 operand_at line from most =
     cond (is_number (word_at line from) most)
-    (record { given = true; value = value_of (word_at line from); next = word_end line from })
-    (record { given = false; value = 0; next = length line })
+    (Some (record { value = value_of (word_at line from); next = word_end line from }))
+    None
+
+-- What an operand says of the words of its line: its number, and the words behind it. Where there is none, no operand can follow either.
+abbrev pub operand_told : List ℕ → Option Operand → Bool × ℕ × List (List ℕ)
+operand_told line (Some o) = (true, o.value, words_of (drop o.next line))
+operand_told line None = (false, 0, [])
 
 -- The first word of a line from index `from` on stands from `start` to `end`; where there is none, both are the line's length.
 pub record NextWord (line : List ℕ) (from start end : ℕ) : Type 0 where
@@ -61,3 +67,8 @@ pub record NextWord (line : List ℕ) (from start end : ℕ) : Type 0 where
   pub within : end ≤ length line
   pub words : words_of (drop from line) ≡ cond (eqb start end) [] (take (end - start) (drop start line) ∷ words_of (drop end line))
   pub last : start ≡ end → end ≡ length line
+
+-- A word is found where it stands, or none, where the line has none.
+abbrev pub FoundWord : List ℕ → ℕ → Option Word → Type 0
+FoundWord line from o =
+    MatchOption o (NextWord line from (length line) (length line)) (λ w. (w.start < w.end) × NextWord line from w.start w.end)

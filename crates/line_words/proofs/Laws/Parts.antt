@@ -3,6 +3,7 @@ use Prim.Native.Nat.{ℕ, zero, suc, ◌+◌, ◌-◌, ◌≤◌, ◌<◌, min}
 use mathlib.Core.Path.{◌≡◌, refl, sym, ◌∙◌, ap}
 use mathlib.Core.Bool.{Bool, true, false, cond, not, ◌&&◌, true≢false}
 use mathlib.Core.List.{List, [], ◌∷◌, ◌++◌, append-nil}
+use Rattle.std.specs.Prelude.{Some, None}
 use lib.ListN.{length, get_or, take, drop, drop_of_length-le}
 use lib.Seq.{drop-cons}
 use native.Mathlib.Nat.{eq-or-lt_of_le, add-zero}
@@ -11,7 +12,7 @@ use native.Mathlib.Numerals.{add-one}
 use native.Mathlib.Omega.{arith}
 use Rattle.lists.specs.Search.{first}
 use Rattle.lists.proofs.Laws.Search.{lt_or_le, first_passes, first_before}
-use Rattle.line_words.specs.Parts.{onto, parts, first_part, before, reach, Reaches}
+use Rattle.line_words.specs.Parts.{onto, parts, first_part, before, reach, Reaches, FoundFrom}
 
 -- A search ends from where it starts on, and not behind the numbers that it looks at.
 pub first_bounds : (p : ℕ → Bool) (r c : ℕ) → (c ≤ first p r c) × (first p r c ≤ c + r)
@@ -30,21 +31,23 @@ pub record Passes (mark : ℕ → Bool) (text : List ℕ) (from at : ℕ) : Type
   pub none : (i : ℕ) → from ≤ i → i < at → mark (get_or text i 0) ≡ false
 
 module _ (mark : ℕ → Bool) (text : List ℕ) (from : ℕ) where
-  pub passes_start : Passes mark text from from
-  passes_start = record { onward = omega arith; none = λ i a b. absurd (omega arith) }
-
-  pub passes_more : (at : ℕ) → Passes mark text from at → mark (get_or text at 0) ≡ false → Passes mark text from (at + 1)
-  passes_more at p e = record { onward = omega (arith, p.onward); none = λ i a b. go i a (eq-or-lt_of_le {n = i} {m = at} (omega arith)) }
-    where
-      go : (i : ℕ) → from ≤ i → (i ≡ at) ⊎ (i < at) → mark (get_or text i 0) ≡ false
-      go i a (inl q) = rw q e
-      go i a (inr l) = p.none i a l
-
   pub reaches_mark : (at : ℕ) → Passes mark text from at → at < length text → mark (get_or text at 0) ≡ true → Reaches mark text from at
   reaches_mark at p l e = record { onward = omega (arith, p.onward); within = omega arith; passed = p.none; marked = λ m. e }
 
   pub reaches_end : (at : ℕ) → Passes mark text from at → length text ≤ at → Reaches mark text from (length text)
   reaches_end at p l = record { onward = omega arith; within = omega arith; passed = λ i a b. p.none i a (omega arith); marked = λ m. absurd (omega arith) }
+
+  -- The same by what a test says of each byte, where that is whether the byte is marked.
+  module _ (says : ℕ → Bool → Type 0) (marks : (byte : ℕ) (b : Bool) → says byte b → b ≡ mark byte)
+      (at : ℕ) (l : from ≤ at) (none : (i : ℕ) → from ≤ i → i < at → says (get_or text i 0) false) where
+    passes : Passes mark text from at
+    passes = record { onward = l; none = λ i a b. sym (marks _ _ (none i a b)) }
+
+    pub found_at : at < length text → says (get_or text at 0) true → FoundFrom mark text from (Some at)
+    found_at m t = (m, reaches_mark at passes m (sym (marks _ _ t)))
+
+    pub found_none : length text ≤ at → FoundFrom mark text from None
+    found_none m = reaches_end at passes m
 
   -- The words of `Reaches` hold of the index that the definition gives, and of no other.
   pub reach_reaches : Reaches mark text from (reach mark text from)

@@ -1,9 +1,11 @@
 -- The words that stand in a line from an index on.
 use Prim.Native.Nat.{ℕ, zero, suc, ◌+◌, ◌-◌, ◌≤◌, ◌<◌}
 use mathlib.Core.Path.{◌≡◌, refl, sym, ◌∙◌, ap}
-use mathlib.Core.Bool.{true, false, true≢false}
+use mathlib.Core.Bool.{Bool, not, true, false, true≢false}
 use mathlib.Core.List.{List, [], ◌∷◌}
 use mathlib.Core.Logic.{inl, inr}
+use Rattle.std.specs.Prelude.{Option, Some, None}
+use Rattle.std.specs.Option.{unwrap_or, is_some}
 use lib.Dec.{eqb}
 use lib.ListN.{length, get_or, take, drop, drop_of_length-le, length-drop}
 use lib.Seq.{drop-cons}
@@ -12,7 +14,7 @@ use native.Mathlib.Nat.{eq-or-lt_of_le}
 use native.Mathlib.Decide.{dec_lt}
 use native.Mathlib.Numerals.{add-one}
 use native.Mathlib.Omega.{arith}
-use Rattle.line_words.specs.Parts.{onto, parts, first_part, reach, Reaches}
+use Rattle.line_words.specs.Parts.{onto, parts, first_part, reach, Reaches, FoundFrom}
 use Rattle.line_words.specs.Words.{is_blank, is_letter, nonempty, words_of, none, word_start, word_end, NextWord}
 use Rattle.line_words.proofs.Laws.Parts.{reach_reaches, reaches_once, parts_marked, parts_last}
 
@@ -112,14 +114,29 @@ module _ (line : List ℕ) where
         }
   ]
 
+  -- What the searches for the two tell of the word.
+  pub word_none : (from : ℕ) → FoundFrom is_letter line from None → NextWord line from (length line) (length line)
+  word_none from a = word_found from _ _ a (record { onward = omega arith; within = omega arith; passed = λ i a b. absurd (omega arith); marked = λ m. absurd (omega arith) })
+
+  pub word_some : (from start : ℕ) (o : Option ℕ) → FoundFrom is_letter line from (Some start) → FoundFrom is_blank line start o
+      → (start < unwrap_or o (length line)) × NextWord line from start (unwrap_or o (length line))
+  word_some from start o a b = go o b
+    where
+      end_is : (end : ℕ) → Reaches is_blank line start end → (start < end) × NextWord line from start end
+      end_is end b = (longer start end a.0 (not-true _ (a.1.marked a.0)) b, word_found from start end a.1 b)
+
+      go : (o : Option ℕ) → FoundFrom is_blank line start o → (start < unwrap_or o (length line)) × NextWord line from start (unwrap_or o (length line))
+      go (Some end) b = end_is end b.1
+      go None b = end_is (length line) b
+
   pub word_at_is : (from : ℕ) → NextWord line from (word_start line from) (word_end line from)
   unfolding word_start word_end
   word_at_is from = word_found from _ _ (reach_reaches is_letter line from) (reach_reaches is_blank line (word_start line from))
 
   -- No word is left just where the scan for one ends with the line.
-  pub none_found : (from r : ℕ) → Reaches is_letter line from r → eqb r (length line) ≡ none (words_of (drop from line))
+  ends_none : (from r : ℕ) → Reaches is_letter line from r → eqb r (length line) ≡ none (words_of (drop from line))
   unfolding none words_of parts
-  none_found from r w = elim (eq-or-lt_of_le {n = r} {m = length line} w.within) [
+  ends_none from r w = elim (eq-or-lt_of_le {n = r} {m = length line} w.within) [
     | inl q ↦ rw (words_from from r w, words_end r (omega arith), eq-eqb r (length line) q)
     | inr l ↦ rw (
       words_from from r w,
@@ -129,6 +146,12 @@ module _ (line : List ℕ) where
       begun (get_or line r 0) (parts is_blank (drop (suc r) line)),
     )
   ]
+
+  pub none_found : (from : ℕ) (o : Option ℕ) → FoundFrom is_letter line from o → (b : Bool) → is_some o ≡ not b → b ≡ none (words_of (drop from line))
+  none_found from None a true e = sym (eq-eqb (length line) (length line) refl) ∙ ends_none from (length line) a
+  none_found from None a false e = absurd (true≢false (sym e))
+  none_found from (Some r) a true e = absurd (true≢false e)
+  none_found from (Some r) a false e = sym (ne_eqb r (length line) (λ q. absurd (omega (arith, a.0)))) ∙ ends_none from r a.1
 
   -- A line without words from an index on, and the first of those that there are.
   pub no_words : (from : ℕ) → none (words_of (drop from line)) ≡ true → words_of (drop from line) ≡ []

@@ -1,6 +1,7 @@
--- Right because the scan for a word ends with the line just where no word is left.
+-- Right because no word is left just where the search for one finds nothing.
+use Rattle.line_words.specs.Words.{is_letter}
 use Rattle.line_words.proofs.Laws.Words.{none_found}
 use Rattle.line_words.proofs.blank.Goals as goal
 
 pub returns : goal.returns
-returns c = none_found _ _ _ c.word_start.ensures
+returns c = none_found _ _ _ (c.find_by.ensures is_letter (λ byte b p. p)) _ c.is_none.ensures
