@@ -1,3 +1,2 @@
--- What is proved of the limits of nodes and flows. The modules named here hold the laws.
+-- What is proved of the limits of nodes and flows. The module named here holds the laws.
 pub mod Forms
-pub mod Limits
