@@ -1,111 +1,81 @@
 // Schedules by value, and check 14 of one that is handed in.
 #![tactic(auto)]
 
-ghost use Rattle.std.specs.Prelude.{◌≡◌, ◌-◌, ◌≤◌, length};
+ghost use Rattle.std.specs.Prelude.{◌≡◌, take, drop};
+ghost use Rattle.std.specs.List.{list_any, zip};
 ghost use Rattle.schedule_check.specs.Schedules.{of_lists, without_links, bad_slots};
-ghost use Rattle.schedule_check.specs.Check.{in_use, bad_at, used_at, schedule_passes};
-ghost use Rattle.lists.specs.Search.{any};
+ghost use Rattle.schedule_check.specs.Check.{in_use, schedule_passes};
 
 // How many links there are, and when each sends: link n at index n - 1. Entries past the last link are 0.
-#[derive(Clone, Copy)]
+#[derive(Clone, Copy, PartialEq, Eq, Debug)]
 pub struct Schedule {
     pub links: u8,
     pub offsets: [u16; 63],
     pub periods: [u16; 63],
 }
 
-pub fn without_links() -> Schedule
-    ensures { result ≡ without_links }
-{
-    Schedule {
-        links: 0,
-        offsets: [0; 63],
-        periods: [0; 63],
+impl Schedule {
+    pub fn without_links() -> Schedule
+        ensures { result ≡ without_links }
+    {
+        Schedule {
+            links: 0,
+            offsets: [0; 63],
+            periods: [0; 63],
+        }
+    }
+
+    // 02, U1: whether some schedule file reads to this schedule.
+    pub fn passes(&self) -> bool
+        ensures { result ≡ schedule_passes self.now }
+    {
+        lists_pass(self.links, &self.offsets, &self.periods)
     }
 }
 
 // A period of 0 has no offset below it, so two tests do.
+#[tactic(auto, using(crate::proofs::Laws::Slots::slots_many, crate::proofs::Laws::Slots::slots_rest))]
 pub fn bad_slots(offset: u16, period: u16) -> bool
     ensures { result ≡ bad_slots offset period }
 {
-    if 1024 < period {
-        return true;
-    }
-    period <= offset
+    1024 < period || period <= offset
 }
 
-// Whether some link's slots are not within their limits. No entry ends the loop, nor that of `rest_used`, so that they take several at a time.
-fn slots_bad<'a>(links: u8, offsets: &'a [u16], periods: &'a [u16]) -> bool
-    requires { (links ≤ 63) × (length offsets.now ≡ 63) × (length periods.now ≡ 63) }
-    ensures { result ≡ any (bad_at offsets.now periods.now) links 0 }
+// Whether some link's slots are not within their limits.
+fn slots_bad(links: u8, offsets: &[u16], periods: &[u16]) -> bool
+    ensures { result ≡ list_any (λ p. bad_slots p.0 p.1) (take links (zip offsets.now periods.now)) }
 {
-    let n = links as usize;
-    let mut long = false;
-    let mut late = false;
-    let mut i = 0;
-    while i < n {
-        let link_period = periods[i];
-        if 1024 < link_period {
-            long = true;
-        }
-        if link_period <= offsets[i] {
-            late = true;
-        }
-        i += 1;
-    }
-    if long {
-        return true;
-    }
-    late
+    offsets
+        .iter()
+        .zip(periods)
+        .take(links as usize)
+        .any(|(offset, period)| bad_slots(*offset, *period))
 }
 
+#[tactic(auto, unfolding(crate::specs::Check::in_use))]
 fn in_use(offset: u16, period: u16) -> bool
     ensures { result ≡ in_use offset period }
 {
-    if offset != 0 {
-        return true;
-    }
-    period != 0
+    offset != 0 || period != 0
 }
 
 // Whether something stands past the last link.
-fn rest_used<'a>(links: u8, offsets: &'a [u16], periods: &'a [u16]) -> bool
-    requires { (length offsets.now ≡ 63) × (length periods.now ≡ 63) }
-    ensures { result ≡ any (used_at offsets.now periods.now) (63 - links) links }
+fn rest_used(links: u8, offsets: &[u16], periods: &[u16]) -> bool
+    ensures { result ≡ list_any (λ p. in_use p.0 p.1) (drop links (zip offsets.now periods.now)) }
 {
-    let mut used = false;
-    let mut i = links as usize;
-    while i < 63 {
-        if in_use(offsets[i], periods[i]) {
-            used = true;
-        }
-        i += 1;
-    }
-    used
+    offsets
+        .iter()
+        .zip(periods)
+        .skip(links as usize)
+        .any(|(offset, period)| in_use(*offset, *period))
 }
 
-// 02, U1: whether some schedule file reads to the schedule with these lists.
-pub fn lists_pass<'a>(links: u8, offsets: &'a [u16], periods: &'a [u16]) -> bool
+// The same of lists that are lent, of another length too.
+pub fn lists_pass(links: u8, offsets: &[u16], periods: &[u16]) -> bool
     ensures { result ≡ schedule_passes (of_lists links offsets.now periods.now) }
 {
-    if offsets.len() != 63 {
+    if offsets.len() != 63 || periods.len() != 63 || 63 < links {
         return false;
     }
-    if periods.len() != 63 {
-        return false;
-    }
-    if 63 < links {
-        return false;
-    }
-    if slots_bad(links, offsets, periods) {
-        return false;
-    }
-    !rest_used(links, offsets, periods)
-}
-
-// The same of a schedule by value.
-pub fn passes(schedule: Schedule) -> bool
-    ensures { result ≡ schedule_passes schedule }
-{
-    lists_pass(schedule.links, &schedule.offsets, &schedule.periods)
+    !slots_bad(links, offsets, periods) && !rest_used(links, offsets, periods)
 }
