@@ -1,27 +1,39 @@
--- Right because each return of 0 is one of the cases of `base_or_none`, and past them `largest_fitting` may be asked.
 use mathlib.Core.Path.{sym, ◌∙◌}
-use borrow.Author.Tests.{lt-ltb, le-ltb, eq-eqb, ne_eqb}
+use Prim.Native.Nat.{◌≤◌}
+use lib.ListN.{length}
 use native.Mathlib.Omega.{arith}
-use Rattle.bases.specs.Inner.{base_or_none}
-use Rattle.bases.proofs.Laws.{base_asked}
+use Rattle.slot_rule.proofs.Laws.Bases.{smallest_within, tried_start, tried_less, tried_hit, tried_end}
+use Rattle.bases.proofs.Laws.{base_some, base_nothing}
 use Rattle.bases.proofs.base_of.Goals as goal
 
-pub returns-then-factor-lt2 : goal.returns-then-factor-lt2
-unfolding base_or_none
-returns-then-factor-lt2 c = simp (lt-ltb _ _ c.if-factor-lt2.true)
+pub loop-base-init : goal.loop-base-init
+loop-base-init c = tried_start _ c.if-factor-lt2.false _ _ c.smallest-low.ensures
 
-pub returns-then-n-eq0 : goal.returns-then-n-eq0
-unfolding base_or_none
-returns-then-n-eq0 c = simp (le-ltb _ _ c.if-factor-lt2.false, eq-eqb _ _ c.if-n-eq0.true)
+pub fits-requires : goal.fits-requires
+fits-requires c =
+    let tried = c.loop-base.invariant in
+    let some : 1 ≤ length c.args.gaps.now = grind arith in (
+      record { two = c.if-factor-lt2.false; one = omega arith; within = λ i l. omega (arith, tried.within, smallest_within c.args.gaps.now i l) },
+      c.largest-most.ensures,
+      some,
+      c.if-gaps-gt63.false,
+    )
 
-pub returns-then-n-gt63 : goal.returns-then-n-gt63
-unfolding base_or_none
-returns-then-n-gt63 c = simp (le-ltb _ _ c.if-factor-lt2.false, ne_eqb _ _ c.if-n-eq0.false, lt-ltb _ _ c.if-n-gt63.true)
+pub returns-then-fits : goal.returns-then-fits
+returns-then-fits c =
+    let two = c.if-factor-lt2.false in
+    let some : 1 ≤ length c.args.gaps.now = grind arith in
+    base_some _ _ two some c.if-gaps-gt63.false _ (omega arith) (tried_hit _ two _ _ c.loop-base.invariant (sym c.fits.ensures ∙ c.if-fits.true))
 
-pub largest_fitting-requires : goal.largest_fitting-requires
-largest_fitting-requires c = (c.if-factor-lt2.false, omega (arith, c.if-n-eq0.false), c.if-n-gt63.false)
+pub returns-else-gaps-gt63 : goal.returns-else-gaps-gt63
+returns-else-gaps-gt63 c =
+    let two = c.if-factor-lt2.false in
+    let some : 1 ≤ length c.args.gaps.now = grind arith in
+    base_nothing _ _ two some c.if-gaps-gt63.false (tried_end _ two _ _ _ c.loop-base.invariant c.smallest-low.ensures (omega arith))
 
-pub returns : goal.returns
-returns c =
-    c.largest_fitting.ensures
-    ∙ sym (base_asked _ _ c.if-factor-lt2.false (omega (arith, c.if-n-eq0.false)) c.if-n-gt63.false)
+pub returns-else-fits : goal.returns-else-fits
+returns-else-fits c =
+    let two = c.if-factor-lt2.false in
+    let some : 1 ≤ length c.args.gaps.now = grind arith in
+    let last = tried_less _ two _ _ c.loop-base.invariant (sym c.fits.ensures ∙ c.if-fits.false) in
+    base_nothing _ _ two some c.if-gaps-gt63.false (tried_end _ two _ _ _ last c.smallest-low.ensures (omega arith))

@@ -6,25 +6,25 @@ use native.Mathlib.Omega.{arith}
 use Rattle.slot_rule.proofs.Laws.Periods.{grown_start, grown_turn, grown_more, grown_end, grown_power}
 use Rattle.bases.proofs.rise_of.Goals as goal
 
-pub loop-p-init : goal.loop-p-init
-loop-p-init c = grown_start _ _ _ _ _ (search rules) (search rules) (sym (pow-zero _))
+pub loop-period-init : goal.loop-period-init
+loop-period-init c = grown_start _ _ _ _ _ (search rules) (search rules) (sym (pow-zero _))
 
-pub overflow_mul-p : goal.overflow_mul-p
-overflow_mul-p c = omega (arith, (grown_turn _ _ _ _ c.requires.0 _ _ c.loop-p.invariant (omega arith)).1)
+pub overflow_mul-period : goal.overflow_mul-period
+overflow_mul-period c = omega (arith, (grown_turn _ _ _ _ c.requires.0 _ _ c.loop-period.invariant (omega arith)).1)
 
 pub overflow_mul-power : goal.overflow_mul-power
 overflow_mul-power c =
-    let w = grown_turn _ _ _ _ c.requires.0 _ _ c.loop-p.invariant (omega arith) in
-    omega (arith, w.1, mul-le-mul_right c.args.factor (grown_power _ _ _ _ _ c.requires.1 c.loop-p.invariant))
+    let w = grown_turn _ _ _ _ c.requires.0 _ _ c.loop-period.invariant (omega arith) in
+    omega (arith, w.1, mul-le-mul_right c.args.factor (grown_power _ _ _ _ _ c.requires.1 c.loop-period.invariant))
 
-pub loop-p-smaller : goal.loop-p-smaller
-loop-p-smaller c = let w = grown_turn _ _ _ _ c.requires.0 _ _ c.loop-p.invariant (omega arith) in omega (arith, w.0, w.1)
+pub loop-period-smaller : goal.loop-period-smaller
+loop-period-smaller c = let w = grown_turn _ _ _ _ c.requires.0 _ _ c.loop-period.invariant (omega arith) in omega (arith, w.0, w.1)
 
-pub loop-p-preserved : goal.loop-p-preserved
-loop-p-preserved c = let f = c.args.factor in
-    grown_more _ _ _ _ c.requires.0 _ _ c.loop-p.invariant _ (omega arith) (λ e q. ap (λ (n : ℕ). n * f) q ∙ sym (pow-suc f e))
+pub loop-period-preserved : goal.loop-period-preserved
+loop-period-preserved c = let f = c.args.factor in
+    grown_more _ _ _ _ c.requires.0 _ _ c.loop-period.invariant _ (omega arith) (λ e q. ap (λ (n : ℕ). n * f) q ∙ sym (pow-suc f e))
 
 pub returns : goal.returns
 returns c =
     let pre = c.requires in
-    grown_end _ _ _ _ pre.0 _ _ c.loop-p.invariant pre.1 (omega arith)
+    grown_end _ _ _ _ pre.0 _ _ c.loop-period.invariant pre.1 (omega arith)

@@ -3,8 +3,8 @@ use Prim.Native.Nat.{◌-◌, ◌^◌}
 use Rattle.slot_rule.proofs.Laws.Periods.{Grown}
 use Rattle.bases.proofs.rise_of.Given as goal
 
-abbrev pub invariant-loop-p : goal.invariant-loop-p
-invariant-loop-p l = Grown (λ e. l.factor ^ e) l.factor l.base l.gap l.p l.power
+abbrev pub invariant-loop-period : goal.invariant-loop-period
+invariant-loop-period l = Grown (λ e. l.factor ^ e) l.factor l.base l.gap l.period l.power
 
-abbrev pub decreases-loop-p : goal.decreases-loop-p
-decreases-loop-p l = l.gap - l.p
+abbrev pub decreases-loop-period : goal.decreases-loop-period
+decreases-loop-period l = l.gap - l.period
