@@ -3,89 +3,66 @@
 
 ghost use Rattle.std.specs.Prelude.{◌≤◌, ◌≡◌, length};
 ghost use Rattle.lists.specs.Lists.{total};
-ghost use Rattle.site.specs.declared.Site.{Site};
-ghost use Rattle.site.specs.Sites.{with_states};
+ghost use Rattle.lists.specs.Search.{some_below};
 ghost use Rattle.slot_checks.specs.Checks.{first_overflow, first_unexpected, advance_ruling};
-ghost use Rattle.rulings.specs.Outcome.{ruling};
+ghost use Rattle.rulings.specs.Outcome.{outcome};
 
-use rulings::Verdict;
-use site::live_count;
+use rulings::{Fault, Verdict};
+use site::Site;
 
 // At 64 bits nine cells and an arrival can be summed.
-fn wide(cell: u32) -> u64
-    ensures { (result ≡ cell) × (result ≤ 4294967295) }
-{
-    cell as u64
-}
-
 fn sum(cells: &[u32]) -> u64
     requires { length cells.now ≤ 9 }
     ensures { (result ≡ total cells.now) × (result ≤ 38654705655) }
 {
-    let mut sum: u64 = 0;
-    let mut i = 0;
-    while i < cells.len() {
-        sum += wide(cells[i]);
-        i += 1;
-    }
-    sum
+    cells.iter().map(|cell| u64::from(*cell)).sum()
 }
 
-// 01, 19: the lowest live number whose nine cells and arrival sum to more than 32 bits can hold, or 64. It ends with the last live flow.
-fn first_overflow(states: &[u8; 64], counters: &[u32], arrivals: &[u16]) -> usize
+// 01, 19: the lowest live number whose nine cells and arrival sum to more than 32 bits can hold.
+#[tactic(auto, using(crate::proofs::Laws::Answers::overflow_found, crate::proofs::Laws::Answers::overflow_none, counters::proofs::Laws::block_lent, std::proofs::lemmas::Bool::Decides::nat_tests), unfolding(crate::specs::Checks::overflows, site::specs::Sites::live, counters::specs::Blocks::cells_of))]
+fn first_overflow(site: &Site, counters: &[u32], arrivals: &[u16]) -> Option<usize>
     requires { (length counters.now ≡ 576) × (length arrivals.now ≡ 64) }
-    ensures { (s : Site) → result ≡ first_overflow (with_states s states.now) counters.now arrivals.now }
+    ensures { result ≡ some_below 64 (first_overflow site.now counters.now arrivals.now) }
 {
-    let mut left = live_count(states);
-    let mut n = 0;
-    while 0 < left {
-        if states[n] == 1 {
+    for n in 0..64 {
+        if site.states[n] == 1 {
             let at = 9 * n;
             let end = at + 9;
-            if 4294967295 < sum(&counters[at..end]) + wide(arrivals[n] as u32) {
-                return n;
+            if u64::from(u32::MAX) < sum(&counters[at..end]) + u64::from(arrivals[n]) {
+                return Some(n);
             }
-            left -= 1;
         }
-        n += 1;
     }
-    64
+    None
 }
 
-// 01, 20: the lowest number that is not live and has arrivals, or 64.
-fn first_unexpected(states: &[u8; 64], arrivals: &[u16]) -> usize
+// 01, 20: the lowest number that is not live and has arrivals.
+#[tactic(auto, using(crate::proofs::Laws::Answers::unexpected_found, crate::proofs::Laws::Answers::unexpected_none, std::proofs::lemmas::Bool::Decides::nat_tests), unfolding(crate::specs::Checks::unexpected, site::specs::Sites::live))]
+fn first_unexpected(site: &Site, arrivals: &[u16]) -> Option<usize>
     requires { length arrivals.now ≡ 64 }
-    ensures { (s : Site) → result ≡ first_unexpected (with_states s states.now) arrivals.now }
+    ensures { result ≡ some_below 64 (first_unexpected site.now arrivals.now) }
 {
-    let mut n = 0;
-    while n < 64 {
-        if states[n] != 1 {
-            if 0 < arrivals[n] {
-                return n;
-            }
+    for n in 0..64 {
+        if site.states[n] != 1 && 0 < arrivals[n] {
+            return Some(n);
         }
-        n += 1;
     }
-    n
+    None
 }
 
-// The checks of a slot besides 14, in their order: 1, 19, 20. They look at the states of a site's flows and at nothing else of it.
-pub fn judge_arrivals(states: &[u8; 64], counters: &[u32], arrivals: &[u16]) -> Verdict
-    ensures { (s : Site) → ruling result ≡ advance_ruling (with_states s states.now) counters.now arrivals.now }
+// The checks of a slot besides 14, in their order: 1, 19, 20.
+#[tactic(auto, using(lists::proofs::Laws::Search::below_is, lists::proofs::Laws::Search::past_is, std::proofs::lemmas::Bool::Decides::nat_tests), unfolding(crate::specs::Checks::advance_ruling, crate::specs::Checks::arrivals_ruling))]
+pub fn judge_arrivals(site: &Site, counters: &[u32], arrivals: &[u16]) -> Verdict
+    ensures { outcome result ≡ advance_ruling site.now counters.now arrivals.now }
 {
-    if arrivals.len() != 64 {
-        return Verdict::Refused(1, 0);
+    if arrivals.len() != 64 || counters.len() != 576 {
+        return Err(Fault::WrongLength.at(0));
     }
-    if counters.len() != 576 {
-        return Verdict::Refused(1, 0);
+    if let Some(over) = first_overflow(site, counters, arrivals) {
+        return Err(Fault::TooManyPackets.at(over));
     }
-    let over = first_overflow(states, counters, arrivals);
-    let stray = first_unexpected(states, arrivals);
-    if over < 64 {
-        return Verdict::Refused(19, over);
+    if let Some(stray) = first_unexpected(site, arrivals) {
+        return Err(Fault::StrayArrivals.at(stray));
     }
-    if stray < 64 {
-        return Verdict::Refused(20, stray);
-    }
-    Verdict::Accepted
+    Ok(())
 }

@@ -1,89 +1,60 @@
--- One law for each answer of the checks of a slot's arrivals, and for each turn of their searches.
+-- What the checks of a slot's arrivals sum and find.
 use Prim.Native.Nat.{ℕ, ◌+◌, ◌-◌, ◌*◌, ◌≤◌, ◌<◌}
-use mathlib.Core.Path.{◌≡◌, sym, ◌∙◌}
+use mathlib.Core.Path.{◌≡◌, refl}
 use mathlib.Core.Bool.{true, false}
-use mathlib.Core.Logic.{◌⊎◌, inl, inr}
-use mathlib.Core.List.{List}
+use mathlib.Core.List.{List, [], ◌∷◌}
 use lib.ListN.{length, get_or, take, drop}
 use borrow.Author.Tests.{lt-ltb, le-ltb, eq-eqb, ne_eqb}
 use native.Mathlib.Omega.{arith}
-use Rattle.rulings.specs.Outcome.{Ruling, accepted, refused}
+use Rattle.std.specs.Prelude.{Some, None}
+use Rattle.std.specs.List.{sum}
+use Rattle.std.proofs.lemmas.List.Elements.{All-from_get_or}
+use Rattle.std.proofs.lemmas.List.Sums.{sum_by-cons, sum_by-le}
+use Rattle.rulings.specs.Outcome.{accepted}
 use Rattle.lists.specs.Lists.{total}
-use Rattle.lists.proofs.Laws.Search.{lt_or_le, first_skip, first_end}
+use Rattle.lists.specs.Search.{some_below}
+use Rattle.lists.proofs.Laws.Search.{first_is, first_none, below_when, past_when}
 use Rattle.site.specs.declared.Site.{Site}
 use Rattle.site.specs.Sites.{live}
-use Rattle.site.proofs.Laws.Flows.{Left, none_left}
 use Rattle.counters.specs.Blocks.{cells_of}
 use Rattle.counters.proofs.Laws.{block_lent}
-use Rattle.slot_checks.specs.Checks.{overflows, first_overflow, unexpected, first_unexpected, arrivals_ruling, advance_ruling}
+use Rattle.slot_checks.specs.Checks.{overflows, first_overflow, unexpected, first_unexpected, arrivals_ruling}
 
--- The tests of 20 and 19 of one number.
+-- The library's sum.
+pub summed : (xs : List ℕ) → total xs ≡ sum xs
+unfolding total
+summed [] = refl
+summed (x ∷ xs) = rw (sum_by-cons (λ y. y) x xs, summed xs)
+
+pub few_summed : (xs : List ℕ) → ((k : ℕ) → get_or xs k 0 ≤ 4294967295) → sum xs ≤ length xs * 4294967295
+few_summed xs few = sum_by-le (λ x. x) 4294967295 xs (All-from_get_or (λ x. x ≤ 4294967295) xs 0 (λ k l. few k))
+
+-- 19 of a number whose cells are lent on, and 20: the lowest number is found, or there is none.
 module _ (s : Site) (xs : List ℕ) (n : ℕ) where
-  pub unexpected_live : get_or s.states n 0 ≡ 1 → unexpected s xs n ≡ false
-  unfolding unexpected live
-  unexpected_live e = rw (eq-eqb _ _ e)
+  pub overflow_found : (cs : List ℕ) → n < 64 → get_or s.states n 0 ≡ 1
+      → 4294967295 < total (take (9 * n + 9 - 9 * n) (drop (9 * n) cs)) + get_or xs n 0
+      → ((k : ℕ) → k < n → overflows s cs xs k ≡ false) → Some n ≡ some_below 64 (first_overflow s cs xs)
+  unfolding first_overflow overflows live cells_of
+  overflow_found cs l on high none =
+      let here : overflows s cs xs n ≡ true = rw (eq-eqb _ _ on, ← block_lent 9 n cs) (lt-ltb _ _ high) in
+      rw (first_is (overflows s cs xs) 64 0 n (omega arith) (omega arith) here none) (below_when 64 n l)
 
-  module _ (off : get_or s.states n 0 ≡ 1 → ⊥) where
-    pub unexpected_yes : 0 < get_or xs n 0 → unexpected s xs n ≡ true
-    unfolding unexpected live
-    unexpected_yes l = rw (ne_eqb _ _ off, lt-ltb _ _ l)
+  pub unexpected_found : n < 64 → (get_or s.states n 0 ≡ 1 → ⊥) → 0 < get_or xs n 0
+      → ((k : ℕ) → k < n → unexpected s xs k ≡ false) → Some n ≡ some_below 64 (first_unexpected s xs)
+  unfolding first_unexpected unexpected live
+  unexpected_found l off some none =
+      let here : unexpected s xs n ≡ true = rw (ne_eqb _ _ off, lt-ltb _ _ some) in
+      rw (first_is (unexpected s xs) 64 0 n (omega arith) (omega arith) here none) (below_when 64 n l)
 
-    pub unexpected_no : get_or xs n 0 ≤ 0 → unexpected s xs n ≡ false
-    unfolding unexpected live
-    unexpected_no l = rw (ne_eqb _ _ off, le-ltb _ _ l)
+  pub overflow_none : (cs : List ℕ) → 64 ≤ n → ((k : ℕ) → k < n → overflows s cs xs k ≡ false) → None ≡ some_below 64 (first_overflow s cs xs)
+  unfolding first_overflow
+  overflow_none cs l none = past_when 64 _ ((first_none (overflows s cs xs) 64).1 (λ k m. none k (omega arith)))
 
-    pub overflow_dead : (cs : List ℕ) → overflows s cs xs n ≡ false
-    unfolding overflows live
-    overflow_dead cs = rw (ne_eqb _ _ off)
+  pub unexpected_none : 64 ≤ n → ((k : ℕ) → k < n → unexpected s xs k ≡ false) → None ≡ some_below 64 (first_unexpected s xs)
+  unfolding first_unexpected
+  unexpected_none l none = past_when 64 _ ((first_none (unexpected s xs) 64).1 (λ k m. none k (omega arith)))
 
-  module _ (cs : List ℕ) (on : get_or s.states n 0 ≡ 1) (v x : ℕ) (e : v ≡ total (take (9 * n + 9 - 9 * n) (drop (9 * n) cs))) (f : x ≡ get_or xs n 0) where
-    summed : v ≡ total (cells_of n cs)
-    unfolding cells_of
-    summed = rw (block_lent 9 n cs) at e
-
-    pub overflow_yes : 4294967295 < v + x → overflows s cs xs n ≡ true
-    unfolding overflows live
-    overflow_yes l = rw (eq-eqb _ _ on, ← summed, ← f) (lt-ltb _ _ l)
-
-    pub overflow_no : v + x ≤ 4294967295 → overflows s cs xs n ≡ false
-    unfolding overflows live
-    overflow_no l = rw (eq-eqb _ _ on, ← summed, ← f) (le-ltb _ _ l)
-
--- Behind the last live flow none overflows.
-pub overflow_none : (s : Site) (cs xs : List ℕ) (n left : ℕ) → Left s n left → left ≡ 0 → ((k : ℕ) → k < n → overflows s cs xs k ≡ false)
-    → 64 ≡ first_overflow s cs xs
-unfolding first_overflow overflows
-overflow_none s cs xs n left w z none = sym (first_skip _ 64 64 (omega arith) (λ k l. go k l (lt_or_le k n)) ∙ first_end _ 64 64 (omega arith))
-  where
-    go : (k : ℕ) → k < 64 → (k < n) ⊎ (n ≤ k) → overflows s cs xs k ≡ false
-    go k l (inl h) = none k h
-    go k l (inr h) = rw (none_left s n left w z k h l)
-
--- The checks of a slot besides 14, one by one: `over` and `stray` are what the callees answer.
-module _ (s : Site) (cs xs : List ℕ) where
-  pub advance_unlisted : (length xs ≡ 64 → ⊥) → refused 1 0 ≡ advance_ruling s cs xs
-  unfolding advance_ruling
-  advance_unlisted d = rw (ne_eqb _ _ d)
-
-  module _ (listed : length xs ≡ 64) where
-    pub advance_uncounted : (length cs ≡ 576 → ⊥) → refused 1 0 ≡ advance_ruling s cs xs
-    unfolding advance_ruling
-    advance_uncounted d = rw (eq-eqb _ _ listed, ne_eqb _ _ d)
-
-    pub advance_counted : length cs ≡ 576 → (r : Ruling) → r ≡ arrivals_ruling s cs xs → r ≡ advance_ruling s cs xs
-    unfolding advance_ruling
-    advance_counted e r q = q ∙ rw (eq-eqb _ _ listed, eq-eqb _ _ e)
-
-  module _ (over : ℕ) (overs : over ≡ first_overflow s cs xs) where
-    pub arrivals_over : over < 64 → refused 19 over ≡ arrivals_ruling s cs xs
-    unfolding arrivals_ruling
-    arrivals_over l = rw (← overs, lt-ltb _ _ l)
-
-    module _ (within : 64 ≤ over) (stray : ℕ) (strays : stray ≡ first_unexpected s xs) where
-      pub arrivals_stray : stray < 64 → refused 20 stray ≡ arrivals_ruling s cs xs
-      unfolding arrivals_ruling
-      arrivals_stray l = rw (← overs, le-ltb _ _ within, ← strays, lt-ltb _ _ l)
-
-      pub arrivals_pass : 64 ≤ stray → accepted tt ≡ arrivals_ruling s cs xs
-      unfolding arrivals_ruling
-      arrivals_pass l = rw (← overs, le-ltb _ _ within, ← strays, le-ltb _ _ l)
+-- The answers, by what the searches find.
+pub arrivals_pass : (s : Site) (cs xs : List ℕ) → 64 ≤ first_overflow s cs xs → 64 ≤ first_unexpected s xs → accepted tt ≡ arrivals_ruling s cs xs
+unfolding arrivals_ruling
+arrivals_pass s cs xs within known = rw (le-ltb _ _ within, le-ltb _ _ known)
