@@ -19,7 +19,7 @@ fn sum(cells: &[u32]) -> u64
 }
 
 // 01, 19: the lowest live number whose nine cells and arrival sum to more than 32 bits can hold.
-#[tactic(auto, using(crate::proofs::Laws::Answers::overflow_found, crate::proofs::Laws::Answers::overflow_none, counters::proofs::Laws::block_lent, std::proofs::lemmas::Bool::Decides::nat_tests), unfolding(crate::specs::Checks::overflows, site::specs::Sites::live, counters::specs::Blocks::cells_of))]
+#[tactic(auto, using(crate::proofs::Laws::Answers::overflow_rules), unfolding(crate::specs::Checks::overflows, site::specs::Sites::live, counters::specs::Blocks::cells_of))]
 fn first_overflow(site: &Site, counters: &[u32], arrivals: &[u16]) -> Option<usize>
     requires { (length counters.now ≡ 576) × (length arrivals.now ≡ 64) }
     ensures { result ≡ some_below 64 (first_overflow site.now counters.now arrivals.now) }
@@ -37,7 +37,7 @@ fn first_overflow(site: &Site, counters: &[u32], arrivals: &[u16]) -> Option<usi
 }
 
 // 01, 20: the lowest number that is not live and has arrivals.
-#[tactic(auto, using(crate::proofs::Laws::Answers::unexpected_found, crate::proofs::Laws::Answers::unexpected_none, std::proofs::lemmas::Bool::Decides::nat_tests), unfolding(crate::specs::Checks::unexpected, site::specs::Sites::live))]
+#[tactic(auto, using(crate::proofs::Laws::Answers::unexpected_rules), unfolding(crate::specs::Checks::unexpected, site::specs::Sites::live))]
 fn first_unexpected(site: &Site, arrivals: &[u16]) -> Option<usize>
     requires { length arrivals.now ≡ 64 }
     ensures { result ≡ some_below 64 (first_unexpected site.now arrivals.now) }
@@ -51,7 +51,7 @@ fn first_unexpected(site: &Site, arrivals: &[u16]) -> Option<usize>
 }
 
 // The checks of a slot besides 14, in their order: 1, 19, 20.
-#[tactic(auto, using(lists::proofs::Laws::Search::below_is, lists::proofs::Laws::Search::past_is, std::proofs::lemmas::Bool::Decides::nat_tests), unfolding(crate::specs::Checks::advance_ruling, crate::specs::Checks::arrivals_ruling))]
+#[tactic(auto, using(crate::proofs::Laws::Answers::arrivals_rules), unfolding(crate::specs::Checks::advance_ruling, crate::specs::Checks::arrivals_ruling))]
 pub fn judge_arrivals(site: &Site, counters: &[u32], arrivals: &[u16]) -> Verdict
     ensures { outcome result ≡ advance_ruling site.now counters.now arrivals.now }
 {

@@ -8,12 +8,13 @@ use borrow.Author.Tests.{lt-ltb, le-ltb, eq-eqb, ne_eqb}
 use native.Mathlib.Omega.{arith}
 use Rattle.std.specs.Prelude.{Some, None}
 use Rattle.std.specs.List.{sum}
+use Rattle.std.proofs.lemmas.Bool.Decides.{nat_tests}
 use Rattle.std.proofs.lemmas.List.Elements.{All-from_get_or}
 use Rattle.std.proofs.lemmas.List.Sums.{sum_by-cons, sum_by-le}
 use Rattle.rulings.specs.Outcome.{accepted}
 use Rattle.lists.specs.Lists.{total}
 use Rattle.lists.specs.Search.{some_below}
-use Rattle.lists.proofs.Laws.Search.{first_is, first_none, below_when, past_when}
+use Rattle.lists.proofs.Laws.Search.{first_is, first_none, below_when, past_when, below_is, past_is}
 use Rattle.site.specs.declared.Site.{Site}
 use Rattle.site.specs.Sites.{live}
 use Rattle.counters.specs.Blocks.{cells_of}
@@ -58,3 +59,10 @@ module _ (s : Site) (xs : List ℕ) (n : ℕ) where
 pub arrivals_pass : (s : Site) (cs xs : List ℕ) → 64 ≤ first_overflow s cs xs → 64 ≤ first_unexpected s xs → accepted tt ≡ arrivals_ruling s cs xs
 unfolding arrivals_ruling
 arrivals_pass s cs xs within known = rw (le-ltb _ _ within, le-ltb _ _ known)
+
+-- What the functions of src/lib.rt are proved by.
+pub ruleset overflow_rules = (overflow_found, overflow_none, block_lent, nat_tests)
+
+pub ruleset unexpected_rules = (unexpected_found, unexpected_none, nat_tests)
+
+pub ruleset arrivals_rules = (below_is, past_is, nat_tests)
