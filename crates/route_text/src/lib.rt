@@ -2,31 +2,30 @@
 #![tactic(auto)]
 
 ghost use Rattle.std.specs.Prelude.{◌≡◌};
-ghost use Rattle.text.specs.Put.{puts};
+ghost use Rattle.text.specs.Page.{Adds};
 ghost use Rattle.text.specs.Listed.{each};
 ghost use Rattle.tree.specs.Tree.{route};
 ghost use Rattle.route_text.specs.Routes.{hop};
 
+use text::Page;
 use tree::parent_of;
 
-fn put_hop(out: &mut [u8], at: usize, node: u8) -> usize
-    ensures { (result, out.new) ≡ puts (at, out.old) (hop node) }
+#[tactic(auto, unfolding(text::specs::Put::puts, crate::specs::Routes::hop))]
+fn put_hop(page: &mut Page, node: u8)
+    ensures { Adds page.old page.new (hop node) }
 {
-    let named = text::put_decimal(out, at, node as u64);
-    slices::put(out, named, b" &gt; ")
+    page.put_decimal(u64::from(node));
+    page.put(b" &gt; ");
 }
 
-pub fn put_route(out: &mut [u8], at: usize, parents: &[u8], entry: u8) -> usize
-    ensures { (result, out.new) ≡ puts (at, out.old) (each hop (route parents.now entry)) }
+// It calls itself on the parent, whose number is smaller.
+#[tactic(auto, using(crate::proofs::Laws::Ways::ways))]
+pub fn put_route(page: &mut Page, parents: &[u8], entry: u8)
+    ensures { Adds page.old page.new (each hop (route parents.now entry)) }
 {
-    let mut taken = at;
-    let mut node = entry;
-    loop {
-        let parent = parent_of(parents, node);
-        if node <= parent {
-            return taken;
-        }
-        taken = put_hop(out, taken, node);
-        node = parent;
+    let parent = parent_of(parents, entry);
+    if parent < entry {
+        put_hop(page, entry);
+        put_route(page, parents, parent);
     }
 }

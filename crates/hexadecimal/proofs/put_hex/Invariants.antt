@@ -1,12 +1,9 @@
--- Right because the bytes before index i are put; what is left of them falls.
-use Prim.Native.Nat.{◌-◌}
-use lib.ListN.{length}
+-- Right because the bytes before this one are put.
+use Rattle.std.proofs.Common.{take}
 use Rattle.hexadecimal.specs.Hexadecimal.{spaced_hex}
-use Rattle.text.proofs.Laws.Listed.{Left}
+use Rattle.text.specs.Listed.{each}
+use Rattle.text.specs.Page.{Adds}
 use Rattle.hexadecimal.proofs.put_hex.Given as goal
 
-abbrev pub invariant-loop-i : goal.invariant-loop-i
-invariant-loop-i l = Left spaced_hex l.bytes (l.at, l.initial.out) l.i (l.taken, l.out)
-
-abbrev pub decreases-loop-i : goal.decreases-loop-i
-decreases-loop-i l = length l.bytes - l.i
+abbrev pub invariant-loop-byte : goal.invariant-loop-byte
+invariant-loop-byte l = Adds l.initial.page l.page (each spaced_hex (take l.byte-index l.bytes))
