@@ -19,7 +19,7 @@ fn put_hop(page: &mut Page, node: u8)
 }
 
 // It calls itself on the parent, whose number is smaller.
-#[tactic(auto, using(crate::proofs::Laws::Ways::ways))]
+#[tactic(auto, using(crate::proofs::Laws::Ways::ways), unfolding(text::specs::Put::puts))]
 pub fn put_route(page: &mut Page, parents: &[u8], entry: u8)
     ensures { Adds page.old page.new (each hop (route parents.now entry)) }
 {
