@@ -18,14 +18,17 @@ fn put_hop(page: &mut Page, node: u8)
     page.put(b" &gt; ");
 }
 
-// It calls itself on the parent, whose number is smaller.
 #[tactic(auto, using(crate::proofs::Laws::Ways::ways), unfolding(text::specs::Put::puts))]
 pub fn put_route(page: &mut Page, parents: &[u8], entry: u8)
     ensures { Adds page.old page.new (each hop (route parents.now entry)) }
 {
-    let parent = parent_of(parents, entry);
-    if parent < entry {
-        put_hop(page, entry);
-        put_route(page, parents, parent);
+    let mut node = entry;
+    loop {
+        let parent = parent_of(parents, node);
+        if node <= parent {
+            return;
+        }
+        put_hop(page, node);
+        node = parent;
     }
 }
