@@ -3,7 +3,7 @@
 
 ghost use Rattle.std.specs.Prelude.{◌≡◌, [], ◌∷◌};
 ghost use Rattle.text.specs.Put.{puts};
-ghost use Rattle.text.specs.Page.{Adds, held};
+ghost use Rattle.text.specs.Page.{Adds, held, shown};
 ghost use Rattle.text.specs.Decimal.{decimal};
 ghost use Rattle.text.specs.Listed.{each, spaced_decimal};
 
@@ -28,6 +28,14 @@ impl<'a> Page<'a> {
         ensures begun { held result ≡ (taken, space.old) }
     {
         Page { space, taken }
+    }
+
+    // What is put on it, nothing where there was no room for a piece.
+    #[tactic(auto, unfolding(crate::specs::Page::shown))]
+    pub fn text(&self) -> &[u8]
+        ensures { result.now ≡ shown (held self.now) }
+    {
+        self.space.get(..self.taken).unwrap_or(&[])
     }
 
     pub fn put(&mut self, word: &[u8])

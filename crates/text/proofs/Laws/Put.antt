@@ -4,10 +4,12 @@ use mathlib.Core.Path.{◌≡◌, refl, sym, ◌∙◌, ap}
 use mathlib.Core.List.{List, [], ◌∷◌, ◌++◌, append_assoc, append-nil}
 use lib.ListN.{length, take, drop, length-append, take-append-drop}
 use lib.Seq.{take_at, length-take-le, drop-append-add, drop-drop}
-use native.Mathlib.Nat.{add-zero}
+use borrow.Author.Tests.{le-leb}
+use native.Mathlib.Nat.{add-zero, zero-add}
 use native.Mathlib.Omega.{arith}
 use Rattle.text.specs.Decimal.{decimal}
 use Rattle.slices.specs.Put.{put}
+use Rattle.text.specs.Page.{shown}
 use Rattle.text.specs.Put.{puts, text_of}
 use Rattle.slices.proofs.Laws.Put.{put_room, paste_all, put_long}
 
@@ -66,3 +68,12 @@ text_joined (p ∷ ps) qs = rw (text_joined ps qs) (sym (append_assoc p (text_of
 
 pub text_append : (ps qs : List (List ℕ)) → length (text_of (ps ++ qs)) ≡ length (text_of ps) + length (text_of qs)
 text_append ps qs = ap length (text_joined ps qs) ∙ length-append (text_of ps) (text_of qs)
+
+-- A page shows all of a text that has room on it.
+pub shown_puts : (out : List ℕ) (ps : List (List ℕ)) → length (text_of ps) ≤ length out → shown (puts (0, out) ps) ≡ text_of ps
+unfolding shown
+shown_puts out ps room =
+    let n : ℕ = length (text_of ps) in
+    let rest : List ℕ = drop n out in
+    let all : n ≤ length (text_of ps ++ rest) = omega (arith, length-append (text_of ps) rest) in
+    rw (puts_whole 0 out ps (omega arith), zero-add n, le-leb _ _ all) (take_at (text_of ps) rest n refl)
