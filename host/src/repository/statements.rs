@@ -36,6 +36,23 @@ pub enum Verdict {
     Refused(u8),
 }
 
+impl Answer {
+    // Nobody is let in.
+    pub fn none() -> Answer
+        ensures { result.given ≡ false }
+    {
+        Answer { given: false }
+    }
+
+    fn hidden(&self) -> bool {
+        self.given
+    }
+
+    pub fn is_given(&self) -> bool {
+        self.hidden()
+    }
+}
+
 // Lets one in.
 pub fn admit(
     flow: u8,
@@ -171,7 +188,7 @@ const CLAIMS: &str = "\
     cells`
   - Promise or law: `each_kept`, `both_kept`, `one_kept`, `call_kept`
   - Refused edit: `kept_by_nobody`, the edits `kept_..`; prints ` equal` and `FF`
-- **`desk::admit`, `plain`**
+- **`desk::admit`, `plain`; `desk::none`, `is_given`**
 ";
 
 const STATEMENTS: &str = "
@@ -188,6 +205,13 @@ pub enum Verdict {
     Accepted,
     Refused(u8),
 }
+
+impl Answer {
+    pub fn none() -> Answer
+        ensures { result.given ≡ false }
+
+impl Answer {
+    pub fn is_given(&self) -> bool
 
 pub fn admit(
     flow: u8,
@@ -360,6 +384,8 @@ fn what_says_less_changes_the_statements() {
         (CODE_PATH, "\n        ≡ admitted flow cells.old", ""),
         (CODE_PATH, "    ensures some { flow ≡ 0 + flow }\n", ""),
         (CODE_PATH, "Asked flow", "⊥"),
+        (CODE_PATH, "        ensures { result.given ≡ false }\n", ""),
+        (CODE_PATH, "    pub fn is_given", "    fn is_given"),
         (CODE_PATH, "    flow: u8,\n", ""),
         (CODE_PATH, "    Refused(u8),\n", ""),
         (CODE_PATH, "pub extern", "extern"),
@@ -418,6 +444,7 @@ fn what_is_no_statement_leaves_them() {
             "result.given ≡ result.given",
         ),
         (CODE_PATH, "#[derive(Clone, Copy)]\n", ""),
+        (CODE_PATH, "        self.given\n", "        !self.given\n"),
         (CODE_PATH, "#![tactic(auto)]\n", ""),
         (CODE_PATH, "pub(crate) fn hidden_flow(", "fn hidden_now("),
         (CALLS_PATH, "  -- It has a number.\n", ""),

@@ -14,7 +14,7 @@ pub struct Item<'a> {
     pub lines: Vec<&'a str>,
 }
 
-/// What a line at the left edge begins: `pub(crate)` is not public.
+/// What a line at its edge begins: `pub(crate)` is not public.
 fn begin_of(line: &str) -> Option<(&str, Kind, bool)> {
     let (is_public, rest) = match line.strip_prefix("pub ") {
         Some(rest) => (true, rest),
@@ -24,7 +24,7 @@ fn begin_of(line: &str) -> Option<(&str, Kind, bool)> {
     let (word, rest) = rest.split_once(' ')?;
     let kind = match word {
         "fn" => Kind::Function,
-        "struct" | "enum" => Kind::Type,
+        "struct" | "enum" | "type" => Kind::Type,
         _ => return None,
     };
     let is_of_name = |sign: char| sign.is_alphanumeric() || sign == '_';
@@ -41,7 +41,7 @@ fn is_clause(line: &str) -> bool {
 fn contract<'a>(lines: &[&'a str]) -> Vec<&'a str> {
     let mut contract: Vec<&str> = Vec::new();
     for &line in lines {
-        if line == "{" {
+        if line.trim_start() == "{" {
             break;
         }
         let has_clause = contract.iter().any(|line| is_clause(line));
@@ -62,24 +62,34 @@ fn type_lines<'a>(lines: &[&'a str]) -> Vec<&'a str> {
     lines[..last.map_or(lines.len(), |last| last + 1)].to_vec()
 }
 
-/// All items of a file, without comments.
+/// All items of a file, without comments. A method has the line of its `impl` before its own.
 pub fn items(text: &str) -> Vec<Item<'_>> {
     let is_comment = |line: &str| line.trim_start().starts_with("//");
     let lines: Vec<&str> = text.lines().filter(|line| !is_comment(line)).collect();
-    let item = |(at, line)| {
-        let (name, kind, is_public) = begin_of(line)?;
-        let lines = match kind {
+    let mut items = Vec::new();
+    let mut owner = None;
+    for (at, &line) in lines.iter().enumerate() {
+        if line.starts_with("impl") {
+            owner = Some(line);
+        } else if line == "}" {
+            owner = None;
+        }
+        let edge = if owner.is_some() { "    " } else { "" };
+        let Some((name, kind, is_public)) = line.strip_prefix(edge).and_then(begin_of) else {
+            continue;
+        };
+        let own = match kind {
             Kind::Function => contract(&lines[at..]),
             Kind::Type => type_lines(&lines[at..]),
         };
-        Some(Item {
+        items.push(Item {
             name,
             kind,
             is_public,
-            lines,
-        })
-    };
-    lines.iter().copied().enumerate().filter_map(item).collect()
+            lines: owner.into_iter().chain(own).collect(),
+        });
+    }
+    items
 }
 
 impl<'a> Item<'a> {
