@@ -1,12 +1,42 @@
 -- What a line of a typed plan says.
-use Rattle.std.specs.Prelude.{ℕ, ◌+◌, cond, List, [], ◌∷◌, eqb}
+use Rattle.std.specs.Prelude.{ℕ, ◌+◌, cond, List, [], ◌∷◌, eqb, Option, Some, None, Result, Ok, Err}
 use Rattle.text.specs.Letters.{letters}
 use Rattle.text.specs.Decimal.{is_number}
 use Rattle.line_words.specs.Parts.{is, before}
 use Rattle.line_words.specs.Words.{words_of, said}
 use Rattle.lists.specs.Lists.{same}
-use Rattle.typed_line.specs.declared.Typed.{Typed}
-use Rattle.typed_line.specs.declared.Typed.TheVariants.{Nothing, Node, Flow, Bad}
+use Rattle.typed_line.specs.declared.Kind.{Kind}
+use Rattle.typed_line.specs.declared.Kind.TheVariants.{Node as a_node, Flow as a_flow}
+use Rattle.typed_line.specs.declared.Command.{Command}
+use Rattle.typed_line.specs.declared.Command.TheVariants.{Node as node, Flow as flow}
+use Rattle.typed_line.specs.declared.Mistake.{Mistake}
+
+-- What a line of a typed plan says: nothing; the operands of a NODE, or of a FLOW; or that it is wrong, with its command, 0 for none, and the place of its
+-- first wrong word.
+pub data Typed : Type 0 where
+  Nothing : Typed
+  Node : ℕ → ℕ → ℕ → Typed
+  Flow : ℕ → ℕ → ℕ → ℕ → Typed
+  Bad : ℕ → ℕ → Typed
+
+-- What each answer says of a line.
+abbrev pub command_number : Option Kind → ℕ
+command_number None = 0
+command_number (Some a_node) = 1
+command_number (Some a_flow) = 2
+
+abbrev pub command_said : Command → Typed
+command_said (node parent capacity gap) = Node parent capacity gap
+command_said (flow number entry rate deadline) = Flow number entry rate deadline
+
+abbrev pub typed_command : Result Command Mistake → Typed
+typed_command (Ok command) = command_said command
+typed_command (Err mistake) = Bad (command_number mistake.named) mistake.place
+
+abbrev pub typed : Result (Option Command) Mistake → Typed
+typed (Ok None) = Nothing
+typed (Ok (Some command)) = command_said command
+typed (Err mistake) = Bad (command_number mistake.named) mistake.place
 
 -- The place of the first wrong word, of which the first has place k: one that is missing, that is no number up to its limit, or that is too many. 0 where
 -- none is wrong.

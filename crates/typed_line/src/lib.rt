@@ -1,93 +1,130 @@
 // One line of a typed plan, `node PARENT CAPACITY GAP` or `flow NUMBER NODE RATE DEADLINE`. No rule of 01 is judged but that each number fits its operand.
 #![tactic(auto)]
 
-ghost use Rattle.std.specs.Prelude.{◌≡◌, drop};
-ghost use Rattle.line_words.specs.Words.{words_of};
-ghost use Rattle.typed_line.specs.Lines.{node_said, flow_said, command_of, typed_line};
+ghost use Rattle.std.specs.Prelude.{ℕ, ◌≡◌, ◌≤◌, ◌<◌, drop, Some, MatchResult, slice_index, eqb, false};
+ghost use Rattle.line_words.specs.Words.{words_of, said};
+ghost use Rattle.typed_line.specs.declared.Mistake.{Mistake};
+ghost use Rattle.typed_line.specs.Lines.{wrong, node_said, flow_said, command_of, typed_line, typed, typed_command};
 
-fn node_line(line: &[u8], from: usize) -> Typed
-    ensures { result ≡ node_said (words_of (drop from line.now)) }
-{
-    let parent = line_words::next_operand(line, from, 255);
-    if !parent.given {
-        return Typed::Bad(1, 2);
-    }
-    let capacity = line_words::next_operand(line, parent.next, 65535);
-    if !capacity.given {
-        return Typed::Bad(1, 3);
-    }
-    let gap = line_words::next_operand(line, capacity.next, 65535);
-    if !gap.given {
-        return Typed::Bad(1, 4);
-    }
-    if !line_words::blank(line, gap.next) {
-        return Typed::Bad(1, 5);
-    }
-    Typed::Node(parent.value as u8, capacity.value as u16, gap.value as u16)
+use line_words::{blank, find, next_operand, next_word};
+use slices::same;
+
+// What the first word of a line can name.
+#[derive(Clone, Copy, PartialEq, Eq, Debug)]
+pub enum Kind {
+    Node,
+    Flow,
 }
 
-fn flow_line(line: &[u8], from: usize) -> Typed
-    ensures { result ≡ flow_said (words_of (drop from line.now)) }
-{
-    let number = line_words::next_operand(line, from, 255);
-    if !number.given {
-        return Typed::Bad(2, 2);
-    }
-    let entry = line_words::next_operand(line, number.next, 255);
-    if !entry.given {
-        return Typed::Bad(2, 3);
-    }
-    let rate = line_words::next_operand(line, entry.next, 255);
-    if !rate.given {
-        return Typed::Bad(2, 4);
-    }
-    let deadline = line_words::next_operand(line, rate.next, 65535);
-    if !deadline.given {
-        return Typed::Bad(2, 5);
-    }
-    if !line_words::blank(line, deadline.next) {
-        return Typed::Bad(2, 6);
-    }
-    Typed::Flow(
-        number.value as u8,
-        entry.value as u8,
-        rate.value as u8,
-        deadline.value as u16,
-    )
+// A command with its operands.
+#[derive(Clone, Copy, PartialEq, Eq, Debug)]
+pub enum Command {
+    Node {
+        parent: u8,
+        capacity: u16,
+        gap: u16,
+    },
+    Flow {
+        number: u8,
+        entry: u8,
+        rate: u8,
+        deadline: u16,
+    },
 }
 
-fn read_command(line: &[u8]) -> Typed
-    ensures { result ≡ command_of (words_of line.now) }
-{
-    let word = line_words::next_word(line, 0);
-    let start = word.start;
-    let end = word.end;
-    if start == end {
-        return Typed::Nothing;
-    }
-    let name = &line[start..end];
-    if slices::same(name, b"node") {
-        return node_line(line, end);
-    }
-    if slices::same(name, b"flow") {
-        return flow_line(line, end);
-    }
-    Typed::Bad(0, 1)
+// Why a line is no command: what it names, if anything, and the place of its first wrong word, of which the name has 1.
+#[derive(Clone, Copy, PartialEq, Eq, Debug)]
+pub struct Mistake {
+    pub named: Option<Kind>,
+    pub place: usize,
 }
 
-// A comment begins with `#` and ends with the line.
-pub fn read_line(line: &[u8]) -> Typed
-    ensures { result ≡ typed_line line.now }
+// The operands from `from` on, each within its limit, with nothing behind them.
+fn operands<const N: usize>(
+    kind: Kind,
+    line: &[u8],
+    from: usize,
+    limits: &[u32; N],
+) -> Result<[u32; N], Mistake>
+    requires { N < 256 }
+    ensures { MatchResult result
+        (λ values. (wrong limits.now (words_of (drop from line.now)) 2 ≡ 0)
+        × ((k : ℕ) → k < N → (slice_index values k ≡ said (words_of (drop from line.now)) k) × (slice_index values k ≤ slice_index limits.now k)))
+        (λ mistake. (mistake ≡ record { named = Some kind; place = wrong limits.now (words_of (drop from line.now)) 2 })
+        × (eqb mistake.place 0 ≡ false)) }
 {
-    let end = line_words::find(line, 0, b'#');
-    read_command(&line[0..end])
+    let mut values = [0u32; N];
+    let mut next = from;
+    for (i, most) in limits.iter().enumerate() {
+        let Some(operand) = next_operand(line, next, *most) else {
+            return Err(Mistake {
+                named: Some(kind),
+                place: i + 2,
+            });
+        };
+        values[i] = operand.value;
+        next = operand.next;
+    }
+    if !blank(line, next) {
+        return Err(Mistake {
+            named: Some(kind),
+            place: N + 2,
+        });
+    }
+    Ok(values)
 }
 
-// What a line says: a command with its operands; or that it is wrong, with its command, 0 for none, and the place of its first wrong word.
-#[derive(Clone, Copy)]
-pub enum Typed {
-    Nothing,
-    Node(u8, u16, u16),
-    Flow(u8, u8, u8, u16),
-    Bad(u8, u8),
+fn node_line(line: &[u8], from: usize) -> Result<Command, Mistake>
+    ensures { typed_command result ≡ node_said (words_of (drop from line.now)) }
+{
+    let [parent, capacity, gap] = operands(Kind::Node, line, from, &[255, 65535, 65535])?;
+    Ok(Command::Node {
+        parent: parent as u8,
+        capacity: capacity as u16,
+        gap: gap as u16,
+    })
+}
+
+fn flow_line(line: &[u8], from: usize) -> Result<Command, Mistake>
+    ensures { typed_command result ≡ flow_said (words_of (drop from line.now)) }
+{
+    let [number, entry, rate, deadline] = operands(
+        Kind::Flow,
+        line,
+        from,
+        &[255, 255, 255, 65535],
+    )?;
+    Ok(Command::Flow {
+        number: number as u8,
+        entry: entry as u8,
+        rate: rate as u8,
+        deadline: deadline as u16,
+    })
+}
+
+fn read_command(line: &[u8]) -> Result<Option<Command>, Mistake>
+    ensures { typed result ≡ command_of (words_of line.now) }
+{
+    let Some(word) = next_word(line, 0) else {
+        return Ok(None);
+    };
+    let name = &line[word.start..word.end];
+    if same(name, b"node") {
+        return node_line(line, word.end).map(Some);
+    }
+    if same(name, b"flow") {
+        return flow_line(line, word.end).map(Some);
+    }
+    Err(Mistake {
+        named: None,
+        place: 1,
+    })
+}
+
+// What a line says: a command, or nothing. A comment begins with `#` and ends with the line.
+pub fn read_line(line: &[u8]) -> Result<Option<Command>, Mistake>
+    ensures { typed result ≡ typed_line line.now }
+{
+    let end = find(line, 0, b'#').unwrap_or(line.len());
+    read_command(&line[..end])
 }

@@ -3,7 +3,8 @@ use Prim.Native.Nat.{ℕ, zero, suc, ◌+◌, ◌-◌, ◌≤◌, ◌<◌, min}
 use mathlib.Core.Path.{◌≡◌, refl, sym, ◌∙◌, ap}
 use mathlib.Core.Bool.{Bool, true, false, cond, not, ◌&&◌, true≢false}
 use mathlib.Core.List.{List, [], ◌∷◌, ◌++◌, append-nil}
-use Rattle.std.specs.Prelude.{Some, None}
+use Rattle.std.specs.Prelude.{Option, Some, None}
+use Rattle.std.specs.Option.{unwrap_or}
 use lib.ListN.{length, get_or, take, drop, drop_of_length-le}
 use lib.Seq.{drop-cons}
 use native.Mathlib.Nat.{eq-or-lt_of_le, add-zero}
@@ -107,6 +108,17 @@ module _ (mark : ℕ → Bool) (text : List ℕ) (from : ℕ) where
     | inl q ↦ rw (parts_last r w l (omega arith))
     | inr m ↦ rw (parts_marked r w l m)
   ]
+
+-- What stands before the first marked byte is the text up to where a search from its start stops.
+pub found_front : (mark : ℕ → Bool) (text : List ℕ) (o : Option ℕ) → FoundFrom mark text 0 o → before mark text ≡ take (unwrap_or o (length text)) text
+found_front mark text o f = go o f
+  where
+    front : (r : ℕ) → Reaches mark text 0 r → before mark text ≡ take r text
+    front r w = let all : r - 0 ≡ r = omega arith in rw all at (before_reached mark text 0 r w (omega arith))
+
+    go : (o : Option ℕ) → FoundFrom mark text 0 o → before mark text ≡ take (unwrap_or o (length text)) text
+    go (Some at) f = front at f.1
+    go None f = front (length text) f
 
 -- No byte of a text is marked.
 unfoldable pub unmarked : (ℕ → Bool) → List ℕ → Bool

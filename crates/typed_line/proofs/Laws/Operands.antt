@@ -1,20 +1,25 @@
 -- The operands of a line, read one after the other.
-use Prim.Native.Nat.{ℕ, suc, ◌+◌, ◌-◌}
+use Prim.Native.Nat.{ℕ, suc, ◌+◌, ◌-◌, ◌≤◌, ◌<◌}
 use mathlib.Core.Path.{◌≡◌, refl, sym, ◌∙◌, ap}
-use mathlib.Core.Bool.{Bool, true, false, cond, not, true≢false}
+use mathlib.Core.Bool.{Bool, true, false, cond, true≢false}
 use mathlib.Core.List.{List, [], ◌∷◌}
 use lib.Dec.{eqb}
-use lib.ListN.{get_or, take, drop}
-use borrow.Author.Tests.{eq-eqb, ne_eqb, not-true, not-false}
+use lib.ListN.{length, length-set, get_or, set, take, drop, drop_of_length-le}
+use lib.Seq.{drop-cons}
+use borrow.Author.Tests.{eq-eqb, ne_eqb}
 use native.Mathlib.Nat.{zero-add}
+use native.Mathlib.Numerals.{add-one}
+use Rattle.std.proofs.Common.{◌≢◌, below_more, get_or-set_other, get_or-set_same}
 use native.Mathlib.Omega.{arith}
 use Rattle.text.specs.Letters.{letters}
 use Rattle.text.specs.Decimal.{value_of, is_number}
 use Rattle.line_words.specs.Words.{words_of, none, operand_of, NextWord, said}
 use Rattle.lists.specs.Lists.{same}
-use Rattle.typed_line.specs.declared.Typed.{Typed}
-use Rattle.typed_line.specs.declared.Typed.TheVariants.{Nothing, Node, Flow, Bad}
-use Rattle.typed_line.specs.Lines.{wrong, node_widths, flow_widths, node_said, flow_said, command_of}
+use Rattle.std.specs.Prelude.{Option, Some, Result, Ok, Err, MatchResult}
+use Rattle.std.specs.Result.{IsOkAnd}
+use Rattle.typed_line.specs.declared.Command.{Command}
+use Rattle.typed_line.specs.declared.Mistake.{Mistake}
+use Rattle.typed_line.specs.Lines.{Nothing, Node, Flow, Bad, wrong, node_widths, flow_widths, node_said, flow_said, command_of, typed, typed_command}
 
 -- The first j words are numbers within their limits: what is left decides whether a word is wrong, and says the other numbers.
 pub record Left (limits : List ℕ) (words : List (List ℕ)) (j : ℕ) (more : List ℕ) (rest : List (List ℕ)) : Type 0 where
@@ -50,77 +55,105 @@ not_read (w ∷ us) ws m v e more k = go (is_number w m) e
     go true e = absurd (true≢false (sym (ap (λ (x : Taken). x.0) e)))
     go false e = refl
 
-module _ (limits : List ℕ) (words : List (List ℕ)) (j : ℕ) where
-  module _ (m : ℕ) (more : List ℕ) (rest : List (List ℕ)) (w : Left limits words j (m ∷ more) rest)
-      (g : Bool) (v : ℕ) (ws : List (List ℕ)) (e : (g, v, ws) ≡ operand_of rest m) where
-    given_read : not g ≡ false → (true, v, ws) ≡ operand_of rest m
-    given_read n = rw (sym (not-false g n)) e
+-- The first j operands are read, each within its limit, and these are their numbers.
+pub record Reading (limits : List ℕ) (words : List (List ℕ)) (j : ℕ) (rest : List (List ℕ)) (values : List ℕ) : Type 0 where
+  pub left : Left limits words j (drop j limits) rest
+  pub long : length values ≡ length limits
+  pub numbers : (k : ℕ) → k < j → (get_or values k 0 ≡ said words k) × (get_or values k 0 ≤ get_or limits k 0)
 
-    pub left_more : not g ≡ false → Left limits words (j + 1) more ws
-    left_more n =
-        let s = read_split rest ws m v (given_read n) more (j + 2) in
-        let k : j + 2 + 1 ≡ j + 1 + 2 = omega arith in
-        record {
-          still = w.still ∙ s.0 ∙ rw k;
-          behind = λ i. let at : j + suc i ≡ j + 1 + i = omega arith in s.2 i ∙ w.behind (suc i) ∙ rw at;
-        }
+module _ (limits : List ℕ) (words : List (List ℕ)) where
+  pub reading_start : (values : List ℕ) → length values ≡ length limits → Reading limits words 0 words values
+  reading_start values e = record { left = left_start limits words; long = e; numbers = λ k l. absurd (omega arith) }
 
-    pub left_value : not g ≡ false → v ≡ said words j
-    left_value n = let at : j + 0 ≡ j = omega arith in (read_split rest ws m v (given_read n) more (j + 2)).1 ∙ w.behind 0 ∙ rw at
+  module _ (j : ℕ) (rest : List (List ℕ)) (values : List ℕ) (w : Reading limits words j rest values) where
+    module _ (l : j < length limits) (ws : List (List ℕ)) (v : ℕ) where
+      at_hand : Left limits words j (get_or limits j 0 ∷ drop (suc j) limits) rest
+      at_hand = rw (drop-cons limits j 0 l) at w.left
 
-    pub left_wrong : not g ≡ true → wrong limits words 2 ≡ j + 2
-    left_wrong n = w.still ∙ not_read rest ws m v (rw (sym (not-true g n)) e) more (j + 2)
+      pub reading_wrong : (false, v, ws) ≡ operand_of rest (get_or limits j 0) → wrong limits words 2 ≡ j + 2
+      reading_wrong e = at_hand.still ∙ not_read rest ws (get_or limits j 0) v e (drop (suc j) limits) (j + 2)
 
-  -- All operands are read, and no word is left, or one is.
-  pub left_none : (rest : List (List ℕ)) → Left limits words j [] rest → (b : Bool) → b ≡ none rest → not b ≡ false → wrong limits words 2 ≡ 0
-  unfolding wrong none
-  left_none [] w b e n = w.still
-  left_none (u ∷ us) w b e n = absurd (true≢false (sym (not-false b n) ∙ e))
+      pub reading_more : (true, v, ws) ≡ operand_of rest (get_or limits j 0) → v ≤ get_or limits j 0 → Reading limits words (j + 1) ws (set values j v)
+      reading_more e m =
+          let room : j < length values = omega (arith, w.long) in
+          let s = read_split rest ws (get_or limits j 0) v e (drop (suc j) limits) (j + 2) in
+          let k : j + 2 + 1 ≡ suc j + 2 = omega arith in
+          record {
+            left = rw (add-one j) (record {
+              still = at_hand.still ∙ s.0 ∙ rw k;
+              behind = λ i. let at : j + suc i ≡ suc j + i = omega arith in s.2 i ∙ at_hand.behind (suc i) ∙ rw at;
+            });
+            long = length-set values j v ∙ w.long;
+            numbers = below_more (λ k. (get_or (set values j v) k 0 ≡ said words k) × (get_or (set values j v) k 0 ≤ get_or limits k 0)) j
+                (λ k h. let ne : k ≢ j = omega arith in rw get_or-set_other (w.numbers k h))
+                (let zero : j + 0 ≡ j = omega arith in rw get_or-set_same (s.1 ∙ at_hand.behind 0 ∙ rw zero, m));
+          }
 
-  pub left_many : (rest : List (List ℕ)) → Left limits words j [] rest → (b : Bool) → b ≡ none rest → not b ≡ true → wrong limits words 2 ≡ j + 2
-  unfolding wrong none
-  left_many [] w b e n = absurd (true≢false (sym e ∙ not-true b n))
-  left_many (u ∷ us) w b e n = w.still
+    module _ (l : length limits ≤ j) where
+      all_read : Left limits words j [] rest
+      all_read = rw (drop_of_length-le limits l) at w.left
+
+      pub reading_many : (n : ℕ) → j ≡ n → false ≡ none rest → wrong limits words 2 ≡ n + 2
+      unfolding wrong none
+      reading_many n q e = go rest all_read e ∙ rw q
+        where
+          go : (rest : List (List ℕ)) → Left limits words j [] rest → false ≡ none rest → wrong limits words 2 ≡ j + 2
+          go [] r e = absurd (true≢false (sym e))
+          go (u ∷ us) r e = r.still
+
+      pub reading_done : true ≡ none rest → wrong limits words 2 ≡ 0
+      unfolding wrong none
+      reading_done e = go rest all_read e
+        where
+          go : (rest : List (List ℕ)) → Left limits words j [] rest → true ≡ none rest → wrong limits words 2 ≡ 0
+          go [] r e = r.still
+          go (u ∷ us) r e = absurd (true≢false e)
 
 -- What the line says then.
 module _ (words : List (List ℕ)) where
-  pub node_wrong : (p : ℕ) → wrong node_widths words 2 ≡ p → eqb p 0 ≡ false → Bad 1 p ≡ node_said words
+  pub node_wrong : eqb (wrong node_widths words 2) 0 ≡ false → Bad 1 (wrong node_widths words 2) ≡ node_said words
   unfolding node_said
-  node_wrong p e n = rw (e, n)
+  node_wrong n = rw n refl
 
   pub node_right : (a b c : ℕ) → wrong node_widths words 2 ≡ 0 → a ≡ said words 0 → b ≡ said words 1 → c ≡ said words 2 → Node a b c ≡ node_said words
   unfolding node_said
   node_right a b c e p q r = rw (e, p, q, r)
 
-  pub flow_wrong : (p : ℕ) → wrong flow_widths words 2 ≡ p → eqb p 0 ≡ false → Bad 2 p ≡ flow_said words
+  pub flow_wrong : eqb (wrong flow_widths words 2) 0 ≡ false → Bad 2 (wrong flow_widths words 2) ≡ flow_said words
   unfolding flow_said
-  flow_wrong p e n = rw (e, n)
+  flow_wrong n = rw n refl
 
   pub flow_right : (a b c d : ℕ) → wrong flow_widths words 2 ≡ 0 → a ≡ said words 0 → b ≡ said words 1 → c ≡ said words 2 → d ≡ said words 3
       → Flow a b c d ≡ flow_said words
   unfolding flow_said
   flow_right a b c d e p q r t = rw (e, p, q, r, t)
 
+-- A command that is read is one that the line says.
+pub typed_mapped : (r : Result Command Mistake) (q : Result (Option Command) Mistake) → MatchResult r (λ x. IsOkAnd q (λ y. y ≡ Some x)) (λ e. q ≡ Err e)
+    → typed q ≡ typed_command r
+typed_mapped (Ok x) (Ok y) m = rw m refl
+typed_mapped (Ok x) (Err d) m = elim m [ ]
+typed_mapped (Err e) q m = rw m refl
+
 -- The command that the first word names.
-module _ (line : List ℕ) (start end : ℕ) (w : NextWord line 0 start end) where
-  pub unnamed : start ≡ end → Nothing ≡ command_of (words_of line)
+module _ (line : List ℕ) where
+  pub unnamed : NextWord line 0 (length line) (length line) → Nothing ≡ command_of (words_of line)
   unfolding command_of
-  unnamed e = sym (rw (w.words, eq-eqb _ _ e))
+  unnamed w = sym (rw (w.words, eq-eqb (length line) (length line) refl))
 
-  module _ (n : start ≡ end → ⊥) where
+  module _ (start end : ℕ) (w : (start < end) × NextWord line 0 start end) where
     named : words_of line ≡ take (end - start) (drop start line) ∷ words_of (drop end line)
-    named = w.words ∙ rw (ne_eqb _ _ n)
+    named = w.1.words ∙ rw (ne_eqb start end (λ q. absurd (omega (arith, w.0))))
 
-    module _ (a : Bool) (p : a ≡ same (take (end - start) (drop start line)) (letters "node")) where
-      pub named_node : a ≡ true → (r : Typed) → r ≡ node_said (words_of (drop end line)) → r ≡ command_of (words_of line)
+    pub named_node : true ≡ same (take (end - start) (drop start line)) (letters "node") → node_said (words_of (drop end line)) ≡ command_of (words_of line)
+    unfolding command_of
+    named_node t = sym (rw (named, sym t))
+
+    module _ (f : false ≡ same (take (end - start) (drop start line)) (letters "node")) where
+      pub named_flow : true ≡ same (take (end - start) (drop start line)) (letters "flow") → flow_said (words_of (drop end line)) ≡ command_of (words_of line)
       unfolding command_of
-      named_node t r q = q ∙ sym (rw (named, sym p ∙ t))
+      named_flow t = sym (rw (named, sym f, sym t))
 
-      module _ (f : a ≡ false) (b : Bool) (q : b ≡ same (take (end - start) (drop start line)) (letters "flow")) where
-        pub named_flow : b ≡ true → (r : Typed) → r ≡ flow_said (words_of (drop end line)) → r ≡ command_of (words_of line)
-        unfolding command_of
-        named_flow t r o = o ∙ sym (rw (named, sym p ∙ f, sym q ∙ t))
-
-        pub named_other : b ≡ false → Bad 0 1 ≡ command_of (words_of line)
-        unfolding command_of
-        named_other t = sym (rw (named, sym p ∙ f, sym q ∙ t))
+      pub named_other : false ≡ same (take (end - start) (drop start line)) (letters "flow") → Bad 0 1 ≡ command_of (words_of line)
+      unfolding command_of
+      named_other t = sym (rw (named, sym f, sym t))

@@ -1,21 +1,19 @@
 -- Right because the first word of the line names the command, and the others are its operands.
-use Rattle.typed_line.proofs.Laws.Operands.{unnamed, named_node, named_flow, named_other}
+use mathlib.Core.Path.{◌∙◌}
+use Rattle.typed_line.proofs.Laws.Operands.{typed_mapped, unnamed, named_node, named_flow, named_other}
 use Rattle.typed_line.proofs.read_command.Goals as goal
 
-pub returns-then-start-end : goal.returns-then-start-end
-returns-then-start-end c = unnamed _ _ _ c.next_word-word.ensures c.if-start-end.true
+pub returns-in_default : goal.returns-in_default
+returns-in_default c = unnamed _ c.in_default.ensures
 
 pub returns-then-same : goal.returns-then-same
 returns-then-same c =
-    named_node _ _ _ c.next_word-word.ensures c.if-start-end.false _
-    c.same.ensures c.if-same.true _ c.node_line.ensures
+    typed_mapped _ _ c.map.ensures.cases ∙ c.node_line.ensures ∙ named_node _ _ _ c.in-Some.ensures c.if-same.ensures
 
 pub returns-then-same-2 : goal.returns-then-same-2
 returns-then-same-2 c =
-    named_flow _ _ _ c.next_word-word.ensures c.if-start-end.false _ c.same.ensures c.if-same.false _
-    c.same-2.ensures c.if-same-2.true _ c.flow_line.ensures
+    typed_mapped _ _ c.map-then-same-2.ensures.cases ∙ c.flow_line.ensures
+    ∙ named_flow _ _ _ c.in-Some.ensures c.if-same.ensures c.if-same-2.ensures
 
 pub returns : goal.returns
-returns c =
-    named_other _ _ _ c.next_word-word.ensures c.if-start-end.false _ c.same.ensures c.if-same.false _
-    c.same-2.ensures c.if-same-2.false
+returns c = named_other _ _ _ c.in-Some.ensures c.if-same.ensures c.if-same-2.ensures
