@@ -1,12 +1,13 @@
 -- 02, U1, schedules read back: what any schedule bytes read to. A schedule has no parents, so nothing is judged from one link to another.
-use Rattle.std.specs.Prelude.{ℕ, ◌+◌, Bool, not, cond, ◌||◌, List, eqb, leb, length, set}
-use Rattle.rulings.specs.Outcome.{Outcome, Ruling, or_else}
+use Rattle.std.specs.Prelude.{ℕ, ◌+◌, Bool, not, cond, ◌||◌, List, Result, Ok, Err, eqb, leb, length, set}
+use Rattle.rulings.specs.declared.Refusal.{Refusal}
+use Rattle.rulings.specs.Outcome.{Outcome, Ruling, accepted, refused, or_else, number_of}
 use Rattle.format.specs.Bytes.{number_at}
 use Rattle.format.specs.Commands.{schedule_size}
 use Rattle.format.specs.Reading.{Kind, fault_of, ended, read_from}
 use Rattle.schedule_reader.specs.declared.Link.{Link}
 use Rattle.schedule_check.specs.declared.Schedule.{Schedule}
-use Rattle.schedule_check.specs.Schedules.{without_links, bad_slots}
+use Rattle.schedule_check.specs.Schedules.{of_lists, without_links, bad_slots}
 
 -- 01: a refused reading of a schedule gives the one without links.
 unfoldable pub with_links : Outcome Schedule → Ruling × Schedule
@@ -48,3 +49,12 @@ schedule_fault = fault_of schedules
 -- What a schedule's bytes read to: a schedule, or a refusal.
 unfoldable pub schedule_read : List ℕ → Outcome Schedule
 schedule_read bytes = read_from schedules (length bytes) bytes 0 without_links
+
+-- The command at an index, which is not END, as a LINK behind what has been read, or the first check that it fails.
+abbrev pub next_link : List ℕ → ℕ → Schedule → Outcome Link
+next_link bytes at s = cond (eqb (schedule_fault bytes at s) 0) (accepted (link_at bytes at)) (refused (schedule_fault bytes at s) at)
+
+-- What a reading into two lists comes to, by the links that it tells.
+abbrev pub read_into : Result ℕ Refusal → List ℕ → List ℕ → Outcome Schedule
+read_into (Ok links) offsets periods = accepted (of_lists links offsets periods)
+read_into (Err r) offsets periods = refused (number_of r.fault) r.place

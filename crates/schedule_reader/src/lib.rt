@@ -1,73 +1,55 @@
 // The reading of schedule files.
 #![tactic(auto)]
 
-ghost use Rattle.std.specs.Prelude.{◌≡◌, ◌+◌, ◌<◌, length};
-ghost use Rattle.rulings.specs.Outcome.{refused, ruling, given};
+ghost use Rattle.std.specs.Prelude.{◌≡◌, ℕ, ◌+◌, ◌<◌, List, IfOk, length};
+ghost use Rattle.rulings.specs.Outcome.{fault_number, outcome};
 ghost use Rattle.format.specs.Reading.{ended};
 ghost use Rattle.schedule_check.specs.Schedules.{of_lists};
-ghost use Rattle.schedule_reader.specs.Read.{with_links, link_at, out_of_order, link_fault, schedule_fault, schedule_read};
+ghost use Rattle.schedule_reader.specs.Read.{with_links, link_at, out_of_order, link_fault, next_link, read_into, schedule_read};
 
-use rulings::Verdict;
-use schedule_check::{Schedule, bad_slots, without_links};
+use format::{END, LINK};
+use rulings::{Fault, Refusal, Verdict};
+use schedule_check::{Schedule, bad_slots};
 
 // The operands of a LINK.
-#[derive(Clone, Copy)]
+#[derive(Clone, Copy, PartialEq, Eq, Debug)]
 pub struct Link {
     pub node: u8,
     pub offset: u16,
     pub period: u16,
 }
 
-// The verdict of a reading, and the schedule that it gives.
-#[derive(Clone, Copy)]
+// The verdict of a reading, and the schedule that it gives. 01: a refusal comes with the one without links.
+#[derive(Clone, Copy, PartialEq, Eq, Debug)]
 pub struct Reading {
     pub verdict: Verdict,
     pub schedule: Schedule,
 }
 
-// The same by lists that are lent: how many links were read.
-#[derive(Clone, Copy)]
-pub struct Listing {
-    pub verdict: Verdict,
-    pub links: u8,
-}
-
-// 01: a refusal comes with the schedule without links.
-fn refusal(number: u8, place: usize) -> Reading
-    ensures { (ruling result.verdict, result.schedule) ≡ with_links (refused number place) }
-{
-    Reading {
-        verdict: Verdict::Refused(number, place),
-        schedule: without_links(),
-    }
-}
-
 // Whether a LINK behind so many others has not the next number, or there is none left.
+#[tactic(auto, unfolding(crate::specs::Read::out_of_order))]
 fn out_of_order(links: u8, node: u8) -> bool
     ensures { result ≡ out_of_order links node }
 {
-    if 63 <= links {
-        return true;
-    }
-    node != links + 1
+    63 <= links || node != links + 1
 }
 
 // 21 and 22 for a LINK behind so many others.
-fn link_fault(links: u8, link: Link) -> u8
-    ensures { result ≡ link_fault links link }
+#[tactic(auto, unfolding(crate::specs::Read::link_fault))]
+fn link_fault(links: u8, link: Link) -> Result<(), Fault>
+    ensures { fault_number result ≡ link_fault links link }
 {
-    let order = out_of_order(links, link.node);
-    let slots = bad_slots(link.offset, link.period);
-    if order {
-        return 21;
+    if out_of_order(links, link.node) {
+        return Err(Fault::LinkOutOfOrder);
     }
-    if slots {
-        return 22;
+    if bad_slots(link.offset, link.period) {
+        return Err(Fault::SlotsOutside);
     }
-    0
+    Ok(())
 }
 
 // The operands of the LINK at index `at`.
+#[tactic(auto, using(format::proofs::Laws::number_one, format::proofs::Laws::number_two), unfolding(crate::specs::Read::link_at))]
 fn link_at(bytes: &[u8], at: usize) -> Link
     requires { at + 5 < length bytes.now }
     ensures { result ≡ link_at bytes.now at }
@@ -79,84 +61,84 @@ fn link_at(bytes: &[u8], at: usize) -> Link
     }
 }
 
-// The first check that the command at index `at` fails behind so many links, 0 where it fails none. It is not END.
-fn fault_at(bytes: &[u8], at: usize, links: u8) -> u8
+// The command at index `at`, which is not END, as a LINK behind so many others.
+#[tactic(auto, using(format::proofs::Laws::Reading::number_some), unfolding(format::specs::Reading::fault_of, format::specs::Commands::schedule_size, crate::specs::Read::link_fault, crate::specs::Read::out_of_order))]
+fn next_link(bytes: &[u8], at: usize, links: u8) -> Result<Link, Refusal>
     requires { at < length bytes.now }
-    ensures { (s : Schedule) → s.links ≡ links → result ≡ schedule_fault bytes.now at s }
+    ensures judged { (s : Schedule) → s.links ≡ links → outcome result ≡ next_link bytes.now at s }
+    ensures room { IfOk result (λ link. (links < 63) × (at + 5 < length bytes.now)) }
 {
     let size = format::schedule_size(bytes[at]);
-    let left = bytes.len() - at;
     if size == 0 {
-        return 3;
+        return Err(Fault::UnknownCommand.at(at));
     }
-    if left < size {
-        return 2;
+    if bytes.len() - at < size {
+        return Err(Fault::CutOff.at(at));
     }
-    link_fault(links, link_at(bytes, at))
+    let link = link_at(bytes, at);
+    if let Err(fault) = link_fault(links, link) {
+        return Err(fault.at(at));
+    }
+    Ok(link)
 }
 
-// END at index `at`: 10.
-fn end(size: usize, at: usize) -> Verdict
+// END at index `at` of so many bytes, behind so many links: 10.
+#[tactic(auto, unfolding(format::specs::Reading::ended))]
+fn end(size: usize, at: usize, links: u8) -> Result<u8, Refusal>
     requires { at < size }
-    ensures { (s : Schedule) → given (ruling result) s ≡ ended size at s }
+    ensures { (offsets periods : List ℕ) → read_into result offsets periods ≡ ended size at (of_lists links offsets periods) }
 {
     let next = at + 1;
     if next < size {
-        return Verdict::Refused(10, next);
+        return Err(Fault::BytesBehindEnd.at(next));
     }
-    Verdict::Accepted
+    Ok(links)
 }
 
-// Fills in the schedule that the bytes stand for; where they are refused, what is filled in says nothing.
-pub fn read_lists(bytes: &[u8], offsets: &mut [u16; 63], periods: &mut [u16; 63]) -> Listing
-    ensures { given (ruling result.verdict) (of_lists result.links offsets.new periods.new) ≡ schedule_read bytes.now }
+// Fills in the schedule that the bytes stand for, and tells its links; where they are refused, what is filled in says nothing.
+#[tactic(auto, unfolding(format::specs::Commands::schedule_size))]
+pub fn read_lists(
+    bytes: &[u8],
+    offsets: &mut [u16; 63],
+    periods: &mut [u16; 63],
+) -> Result<u8, Refusal>
+    ensures { read_into result offsets.new periods.new ≡ schedule_read bytes.now }
 {
     *offsets = [0; 63];
     *periods = [0; 63];
     let mut links: u8 = 0;
     let mut at = 0;
     while at < bytes.len() {
-        if bytes[at] == 255 {
-            let verdict = end(bytes.len(), at);
-            return Listing { verdict, links };
+        if bytes[at] == END {
+            return end(bytes.len(), at, links);
         }
-        let fault = fault_at(bytes, at, links);
-        if fault != 0 {
-            return Listing {
-                verdict: Verdict::Refused(fault, at),
-                links,
-            };
-        }
-        let link = link_at(bytes, at);
+        let link = next_link(bytes, at, links)?;
         let i = links as usize;
         offsets[i] = link.offset;
         periods[i] = link.period;
         links += 1;
-        at += format::schedule_size(17);
+        at += format::schedule_size(LINK);
     }
-    Listing {
-        verdict: Verdict::Refused(2, bytes.len()),
-        links,
-    }
+    Err(Fault::CutOff.at(bytes.len()))
 }
 
-// The schedule that the bytes stand for, or a refusal with the one without links.
+// The schedule that the bytes stand for.
+#[tactic(auto, unfolding(crate::specs::Read::with_links, rulings::specs::Outcome::or_else))]
 pub fn read_schedule(bytes: &[u8]) -> Reading
-    ensures { (ruling result.verdict, result.schedule) ≡ with_links (schedule_read bytes.now) }
+    ensures { (outcome result.verdict, result.schedule) ≡ with_links (schedule_read bytes.now) }
 {
-    let mut offsets = [0u16; 63];
-    let mut periods = [0u16; 63];
-    let read = read_lists(bytes, &mut offsets, &mut periods);
-    let verdict = read.verdict;
-    match verdict {
-        Verdict::Accepted => {
-            let schedule = Schedule {
-                links: read.links,
-                offsets,
-                periods,
-            };
-            Reading { verdict, schedule }
+    let mut schedule = Schedule::without_links();
+    match read_lists(bytes, &mut schedule.offsets, &mut schedule.periods) {
+        Ok(links) => {
+            schedule.links = links;
+            Reading {
+                verdict: Ok(()),
+                schedule,
+            }
         }
-        Verdict::Refused(number, place) => refusal(number, place),
+        Err(refusal) => Reading {
+            verdict: Err(refusal),
+            schedule: Schedule::without_links(),
+        },
     }
 }

@@ -1,14 +1,13 @@
 -- One law for each way that a check of a LINK ends.
 use Prim.Native.Nat.{ℕ, ◌+◌, ◌*◌, ◌≤◌, ◌<◌}
-use mathlib.Core.Path.{◌≡◌, sym, ◌∙◌}
-use mathlib.Core.Bool.{Bool, true, false, not, false≢true}
+use mathlib.Core.Path.{◌≡◌, refl, sym, ◌∙◌}
+use mathlib.Core.Bool.{Bool, true, false, false≢true}
 use mathlib.Core.List.{List}
 use mathlib.Core.Logic.{◌⊎◌, inl, inr, ⊎_elim, ◌↔◌}
-use lib.Dec.{eqb}
 use lib.ListN.{get_or}
-use borrow.Author.Tests.{le-leb, lt-leb, eq-eqb, ne_eqb, leb-false, eqb-true, not-false}
 use native.Mathlib.Omega.{arith}
-use Rattle.rulings.proofs.Laws.Choices.{passed, neither}
+use Rattle.std.proofs.lemmas.Bool.Decides.{nat_tests}
+use Rattle.rulings.proofs.Laws.Choices.{passed}
 use Rattle.lists.proofs.Laws.Search.{lt_or_le}
 use Rattle.format.proofs.Laws.{number_one, number_two}
 use Rattle.schedule_reader.specs.declared.Link.{Link}
@@ -19,42 +18,21 @@ use Rattle.schedule_check.proofs.Laws.Slots.{slots_when}
 
 -- 21.
 module _ (links node : ℕ) where
-  pub order_full : 63 ≤ links → true ≡ out_of_order links node
-  unfolding out_of_order
-  order_full l = simp (le-leb _ _ l)
-
-  pub order_next : links < 63 → not (eqb node (links + 1)) ≡ out_of_order links node
-  unfolding out_of_order
-  order_next l = simp (lt-leb _ _ l)
-
   -- Not out of order: there is room, and the number is the next.
   pub order_when : (out_of_order links node ≡ false) ↔ ((links < 63) × (node ≡ links + 1))
   unfolding out_of_order
-  order_when = (
-    λ e. let w = neither _ _ e in (leb-false _ _ w.0, eqb-true _ _ (not-false _ w.1)),
-    λ w. simp (lt-leb _ _ w.0, eq-eqb _ _ w.1),
-  )
+  order_when = (λ e. (grind (arith, nat_tests), grind (arith, nat_tests)), λ w. grind (arith, nat_tests))
 
   -- Out of order: no number is left, or the number is not the next.
   pub order_fails : (out_of_order links node ≡ true) ↔ ((63 ≤ links) ⊎ (node ≡ links + 1 → ⊥))
   order_fails = (
-    λ e. ⊎_elim (λ l. inr (λ q. false≢true (sym (order_when.1 (l, q)) ∙ e))) (λ l. inl l) (lt_or_le links 63),
-    ⊎_elim (λ l. sym (order_full l)) (λ n. ⊎_elim (λ l. sym (order_next l) ∙ rw (ne_eqb node (links + 1) n)) (λ l. sym (order_full l)) (lt_or_le links 63)),
+    λ e. ⊎_elim (λ l. inr (λ q. false≢true (sym (order_when.1 (l, q)) ∙ e))) inl (lt_or_le links 63),
+    λ w. go (out_of_order links node) refl w,
   )
-
--- Both. t and u stand for the two tests.
-module _ (links : ℕ) (l : Link) (t u : Bool) (order : t ≡ out_of_order links l.node) (slots : u ≡ bad_slots l.offset l.period) where
-  pub link_order : t ≡ true → 21 ≡ link_fault links l
-  unfolding link_fault
-  link_order e = rw (← order, e)
-
-  pub link_slots : t ≡ false → u ≡ true → 22 ≡ link_fault links l
-  unfolding link_fault
-  link_slots e f = rw (← order, ← slots, e, f)
-
-  pub link_well : t ≡ false → u ≡ false → 0 ≡ link_fault links l
-  unfolding link_fault
-  link_well e f = rw (← order, ← slots, e, f)
+    where
+      go : (t : Bool) → out_of_order links node ≡ t → (63 ≤ links) ⊎ (node ≡ links + 1 → ⊥) → out_of_order links node ≡ true
+      go true e w = e
+      go false e w = let o = order_when.0 e in absurd (⊎_elim (λ l. omega arith) (λ n. n o.1) w)
 
 -- What a LINK has that passes.
 pub link_passed : (links : ℕ) (l : Link) → link_fault links l ≡ 0 → (links < 63) × (l.node ≡ links + 1) × SlotsWithin l.offset l.period

@@ -1,35 +1,55 @@
 -- How far the reading of a schedule can come, and that its first 1,024 bytes settle it.
 use Prim.Native.Nat.{ℕ, ◌+◌, ◌*◌, ◌≤◌, ◌<◌}
 use mathlib.Core.Path.{◌≡◌, refl, sym, ◌∙◌}
+use mathlib.Core.Bool.{Bool, true, false, cond}
 use mathlib.Core.List.{List}
+use lib.Dec.{eqb}
 use lib.ListN.{length, get_or, take}
+use borrow.Author.Tests.{eqb-true, eqb-false}
 use native.Mathlib.Omega.{arith}
+use Rattle.rulings.specs.Outcome.{accepted, refused}
+use Rattle.rulings.proofs.Laws.Outcomes.{refused_not}
 use Rattle.format.specs.Commands.{schedule_size}
-use Rattle.format.proofs.Laws.{link_most, size_kind, size_link}
-use Rattle.format.proofs.Laws.Reading.{read_on, read_go, fault_passed, ended_alike, Agreeing, Settled, read_first}
+use Rattle.format.proofs.Laws.{link_most, size_kind}
+use Rattle.format.proofs.Laws.Reading.{read_on, read_stop, read_go, fault_passed, ended_alike, Agreeing, Settled, read_first}
 use Rattle.schedule_reader.specs.declared.Link.{Link}
 use Rattle.schedule_check.specs.declared.Schedule.{Schedule}
 use Rattle.schedule_check.specs.Schedules.{without_links}
-use Rattle.schedule_reader.specs.Read.{link_at, link_added, schedules, schedule_fault, schedule_read}
+use Rattle.schedule_reader.specs.Read.{link_at, link_added, schedules, schedule_fault, next_link, schedule_read}
 use Rattle.schedule_reader.proofs.Laws.Commands.{link_passed, link_at_lem}
 
 pub schedule_start : (bytes : List ℕ) → schedule_read bytes ≡ read_on schedules bytes 0 without_links
 unfolding schedule_read read_on
 schedule_start bytes = refl
 
-module _ (bytes : List ℕ) (at : ℕ) (s : Schedule) (passes : schedule_fault bytes at s ≡ 0) where
-  -- A command that passes is a LINK.
-  link_tag : get_or bytes at 0 ≡ 17
-  link_tag = size_kind (get_or bytes at 0) (omega (arith, (fault_passed schedules bytes at s passes).0))
+-- What a turn of the reading makes of the command at an index that is not END.
+module _ (bytes : List ℕ) (at : ℕ) (s : Schedule) (here : at < length bytes) (more : get_or bytes at 0 ≡ 255 → ⊥) where
+  pub link_refused : (number place : ℕ) → refused number place ≡ next_link bytes at s → read_on schedules bytes at s ≡ refused number place
+  link_refused number place e = go (eqb (schedule_fault bytes at s) 0) refl e
+    where
+      go : (t : Bool) → eqb (schedule_fault bytes at s) 0 ≡ t
+          → refused number place ≡ cond t (accepted (link_at bytes at)) (refused (schedule_fault bytes at s) at)
+          → read_on schedules bytes at s ≡ refused number place
+      go true q e = absurd (refused_not _ refl e)
+      go false q e =
+          let n : number ≡ schedule_fault bytes at s = cc in
+          let p : place ≡ at = cc in
+          rw (n, p) (read_stop schedules bytes at s here more (eqb-false _ _ q))
 
-  -- The bytes that are read of it.
-  pub link_inside : at + 5 < length bytes
-  link_inside = omega (arith, (fault_passed schedules bytes at s passes).1, size_link (get_or bytes at 0) link_tag)
-
-  -- Behind it the reading goes on.
-  pub schedule_go : at < length bytes → (get_or bytes at 0 ≡ 255 → ⊥) → (l : Link) → l ≡ link_at bytes at → (n : ℕ) → n ≡ schedule_size 17
-      → read_on schedules bytes at s ≡ schedule_read bytes → read_on schedules bytes (at + n) (link_added s l) ≡ schedule_read bytes
-  schedule_go h t l q n is i = rw (q, is, ← link_tag) (sym (read_go schedules bytes at s h t passes) ∙ i)
+  -- A command that passes is a LINK, and behind it the reading goes on.
+  pub link_taken : (l : Link) (size : ℕ) → accepted l ≡ next_link bytes at s → size ≡ schedule_size 17
+      → read_on schedules bytes at s ≡ read_on schedules bytes (at + size) (link_added s l)
+  link_taken l size e n = go (eqb (schedule_fault bytes at s) 0) refl e
+    where
+      go : (t : Bool) → eqb (schedule_fault bytes at s) 0 ≡ t
+          → accepted l ≡ cond t (accepted (link_at bytes at)) (refused (schedule_fault bytes at s) at)
+          → read_on schedules bytes at s ≡ read_on schedules bytes (at + size) (link_added s l)
+      go true q e =
+          let none : schedule_fault bytes at s ≡ 0 = eqb-true _ _ q in
+          let tag : get_or bytes at 0 ≡ 17 = size_kind _ (omega (arith, (fault_passed schedules bytes at s none).0)) in
+          let is : l ≡ link_at bytes at = cc in
+          rw (is, n, ← tag) (read_go schedules bytes at s here more none)
+      go false q e = absurd (refused_not _ e refl)
 
 -- How far a reading can come: a LINK makes one of at most 63 links.
 record Within (at : ℕ) (s : Schedule) : Type 0 where
