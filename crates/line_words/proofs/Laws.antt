@@ -3,3 +3,4 @@ pub mod Parts
 pub mod Words
 pub mod Numbers
 pub mod Spaced
+pub mod Operands

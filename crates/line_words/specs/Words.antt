@@ -1,5 +1,5 @@
 -- The words of a line, and those that are numbers.
-use Rattle.std.specs.Prelude.{ℕ, ◌-◌, ◌≤◌, ◌<◌, min, ◌≡◌, Bool, true, false, cond, not, ◌||◌, List, [], ◌∷◌, eqb, length, get_or, take, drop, Option, Some, None, MatchOption}
+use Rattle.std.specs.Prelude.{ℕ, ◌+◌, ◌-◌, ◌≤◌, ◌<◌, min, ◌≡◌, Bool, true, false, cond, not, ◌||◌, List, [], ◌∷◌, eqb, length, get_or, take, drop, Option, Some, None, MatchOption}
 use Rattle.text.specs.Decimal.{value_of, is_number}
 use Rattle.line_words.specs.Parts.{parts, reach}
 use Rattle.line_words.specs.declared.Operand.{Operand}
@@ -34,6 +34,13 @@ operand_of (w ∷ ws) most = cond (is_number w most) (true, value_of w, ws) (fal
 -- The number that the word at index i says.
 unfoldable pub said : List (List ℕ) → ℕ → ℕ
 said words i = value_of (get_or words i [])
+
+-- The first wrong word, of which the first has index k: one that is missing, that is no number up to its limit, or that is too many.
+unfoldable pub misfit : List ℕ → List (List ℕ) → ℕ → Option ℕ
+misfit [] [] k = None
+misfit [] (w ∷ ws) k = Some k
+misfit (m ∷ ms) [] k = Some k
+misfit (m ∷ ms) (w ∷ ws) k = cond (is_number w m) (misfit ms ws (k + 1)) (Some k)
 
 -- Where the first word of a line from index `from` on begins, and where it ends: at the first letter, and at the first blank behind that. Where there is no
 -- word, both are the line's length.

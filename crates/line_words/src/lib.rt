@@ -1,10 +1,10 @@
 // Words of a line, and the decimal numbers among them.
 #![tactic(auto)]
 
-ghost use Rattle.std.specs.Prelude.{ℕ, ◌≤◌, ◌≡◌, cond, length, drop, Bool, Some, None, IfSome};
+ghost use Rattle.std.specs.Prelude.{ℕ, ◌≤◌, ◌<◌, ◌≡◌, cond, length, drop, slice_index, Bool, Some, None, IfSome, MatchResult};
 ghost use Rattle.text.specs.Decimal.{value_of, is_number};
 ghost use Rattle.line_words.specs.Parts.{is, FoundFrom};
-ghost use Rattle.line_words.specs.Words.{is_blank, is_letter, words_of, none, operand_of, operand_at, operand_told, FoundWord};
+ghost use Rattle.line_words.specs.Words.{is_blank, is_letter, words_of, none, said, misfit, operand_of, operand_at, operand_told, FoundWord};
 
 // A word from the index of its first byte to the index behind its last.
 #[derive(Clone, Copy, PartialEq, Eq, Debug)]
@@ -97,4 +97,30 @@ pub fn next_operand(line: &[u8], from: usize, most: u32) -> Option<Operand>
         value,
         next: word.end,
     })
+}
+
+// The operands from `from` on, one for each limit and at most that, with nothing behind them; or the index of the first word among them that is wrong.
+pub fn read_operands<const N: usize>(
+    line: &[u8],
+    from: usize,
+    limits: &[u32; N],
+) -> Result<[u32; N], usize>
+    ensures { MatchResult result
+        (λ values. (misfit limits.now (words_of (drop from line.now)) 0 ≡ None)
+        × ((k : ℕ) → k < N → (slice_index values k ≡ said (words_of (drop from line.now)) k) × (slice_index values k ≤ slice_index limits.now k)))
+        (λ index. (misfit limits.now (words_of (drop from line.now)) 0 ≡ Some index) × (index ≤ N)) }
+{
+    let mut values = [0u32; N];
+    let mut next = from;
+    for (i, most) in limits.iter().enumerate() {
+        let Some(operand) = next_operand(line, next, *most) else {
+            return Err(i);
+        };
+        values[i] = operand.value;
+        next = operand.next;
+    }
+    if !blank(line, next) {
+        return Err(N);
+    }
+    Ok(values)
 }

@@ -1,12 +1,11 @@
 // One line of a typed plan, `node PARENT CAPACITY GAP` or `flow NUMBER NODE RATE DEADLINE`. No rule of 01 is judged but that each number fits its operand.
 #![tactic(auto)]
 
-ghost use Rattle.std.specs.Prelude.{ℕ, ◌≡◌, ◌≤◌, ◌<◌, drop, Some, MatchResult, slice_index, eqb, false};
-ghost use Rattle.line_words.specs.Words.{words_of, said};
-ghost use Rattle.typed_line.specs.declared.Mistake.{Mistake};
-ghost use Rattle.typed_line.specs.Lines.{wrong, node_said, flow_said, command_of, typed_line, typed, typed_command};
+ghost use Rattle.std.specs.Prelude.{◌≡◌, drop};
+ghost use Rattle.line_words.specs.Words.{words_of};
+ghost use Rattle.typed_line.specs.Lines.{node_said, flow_said, command_of, typed_line, typed, typed_command};
 
-use line_words::{blank, find, next_operand, next_word};
+use line_words::{find, next_word, read_operands};
 use slices::same;
 
 // What the first word of a line can name.
@@ -39,45 +38,19 @@ pub struct Mistake {
     pub place: usize,
 }
 
-// The operands from `from` on, each within its limit, with nothing behind them.
-fn operands<const N: usize>(
-    kind: Kind,
-    line: &[u8],
-    from: usize,
-    limits: &[u32; N],
-) -> Result<[u32; N], Mistake>
-    requires { N < 256 }
-    ensures { MatchResult result
-        (λ values. (wrong limits.now (words_of (drop from line.now)) 2 ≡ 0)
-        × ((k : ℕ) → k < N → (slice_index values k ≡ said (words_of (drop from line.now)) k) × (slice_index values k ≤ slice_index limits.now k)))
-        (λ mistake. (mistake ≡ record { named = Some kind; place = wrong limits.now (words_of (drop from line.now)) 2 })
-        × (eqb mistake.place 0 ≡ false)) }
-{
-    let mut values = [0u32; N];
-    let mut next = from;
-    for (i, most) in limits.iter().enumerate() {
-        let Some(operand) = next_operand(line, next, *most) else {
-            return Err(Mistake {
-                named: Some(kind),
-                place: i + 2,
-            });
-        };
-        values[i] = operand.value;
-        next = operand.next;
-    }
-    if !blank(line, next) {
-        return Err(Mistake {
-            named: Some(kind),
-            place: N + 2,
-        });
-    }
-    Ok(values)
-}
-
 fn node_line(line: &[u8], from: usize) -> Result<Command, Mistake>
     ensures { typed_command result ≡ node_said (words_of (drop from line.now)) }
 {
-    let [parent, capacity, gap] = operands(Kind::Node, line, from, &[255, 65535, 65535])?;
+    let operands = match read_operands(line, from, &[255, 65535, 65535]) {
+        Ok(operands) => operands,
+        Err(index) => {
+            return Err(Mistake {
+                named: Some(Kind::Node),
+                place: index + 2,
+            });
+        }
+    };
+    let [parent, capacity, gap] = operands;
     Ok(Command::Node {
         parent: parent as u8,
         capacity: capacity as u16,
@@ -88,12 +61,16 @@ fn node_line(line: &[u8], from: usize) -> Result<Command, Mistake>
 fn flow_line(line: &[u8], from: usize) -> Result<Command, Mistake>
     ensures { typed_command result ≡ flow_said (words_of (drop from line.now)) }
 {
-    let [number, entry, rate, deadline] = operands(
-        Kind::Flow,
-        line,
-        from,
-        &[255, 255, 255, 65535],
-    )?;
+    let operands = match read_operands(line, from, &[255, 255, 255, 65535]) {
+        Ok(operands) => operands,
+        Err(index) => {
+            return Err(Mistake {
+                named: Some(Kind::Flow),
+                place: index + 2,
+            });
+        }
+    };
+    let [number, entry, rate, deadline] = operands;
     Ok(Command::Flow {
         number: number as u8,
         entry: entry as u8,

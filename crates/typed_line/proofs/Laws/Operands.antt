@@ -1,132 +1,73 @@
--- The operands of a line, read one after the other.
-use Prim.Native.Nat.{ℕ, suc, ◌+◌, ◌-◌, ◌≤◌, ◌<◌}
-use mathlib.Core.Path.{◌≡◌, refl, sym, ◌∙◌, ap}
-use mathlib.Core.Bool.{Bool, true, false, cond, true≢false}
+-- What a line says by its operands, and by its first word.
+use Prim.Native.Nat.{ℕ, ◌+◌, ◌-◌, ◌<◌}
+use mathlib.Core.Path.{◌≡◌, refl, sym, ◌∙◌}
+use mathlib.Core.Bool.{Bool, true, false, cond}
 use mathlib.Core.List.{List, [], ◌∷◌}
-use lib.Dec.{eqb}
-use lib.ListN.{length, length-set, get_or, set, take, drop, drop_of_length-le}
-use lib.Seq.{drop-cons}
+use lib.ListN.{length, take, drop}
 use borrow.Author.Tests.{eq-eqb, ne_eqb}
-use native.Mathlib.Nat.{zero-add}
-use native.Mathlib.Numerals.{add-one}
-use Rattle.std.proofs.Common.{◌≢◌, below_more, get_or-set_other, get_or-set_same}
 use native.Mathlib.Omega.{arith}
-use Rattle.text.specs.Letters.{letters}
-use Rattle.text.specs.Decimal.{value_of, is_number}
-use Rattle.line_words.specs.Words.{words_of, none, operand_of, NextWord, said}
-use Rattle.lists.specs.Lists.{same}
-use Rattle.std.specs.Prelude.{Option, Some, Result, Ok, Err, MatchResult}
+use Rattle.std.specs.Prelude.{Option, Some, None, Result, Ok, Err, MatchResult}
 use Rattle.std.specs.Result.{IsOkAnd}
+use Rattle.text.specs.Letters.{letters}
+use Rattle.text.specs.Decimal.{is_number}
+use Rattle.line_words.specs.Words.{words_of, said, misfit, NextWord}
+use Rattle.lists.specs.Lists.{same}
 use Rattle.typed_line.specs.declared.Command.{Command}
 use Rattle.typed_line.specs.declared.Mistake.{Mistake}
 use Rattle.typed_line.specs.Lines.{Nothing, Node, Flow, Bad, wrong, node_widths, flow_widths, node_said, flow_said, command_of, typed, typed_command}
 
--- The first j words are numbers within their limits: what is left decides whether a word is wrong, and says the other numbers.
-pub record Left (limits : List ℕ) (words : List (List ℕ)) (j : ℕ) (more : List ℕ) (rest : List (List ℕ)) : Type 0 where
-  pub still : wrong limits words 2 ≡ wrong more rest (j + 2)
-  pub behind : (i : ℕ) → said rest i ≡ said words (j + i)
-
-pub left_start : (limits : List ℕ) (words : List (List ℕ)) → Left limits words 0 limits words
-left_start limits words = record { still = refl; behind = λ i. rw (zero-add i) }
-
-abbrev Taken : Type 0
-Taken = Bool × ℕ × List (List ℕ)
-
--- An operand that was read, and one that was not.
-read_split : (rest ws : List (List ℕ)) (m v : ℕ) → (true, v, ws) ≡ operand_of rest m
-    → (more : List ℕ) (k : ℕ) → (wrong (m ∷ more) rest k ≡ wrong more ws (k + 1)) × (v ≡ said rest 0) × ((i : ℕ) → said ws i ≡ said rest (suc i))
-unfolding operand_of wrong said
-read_split [] ws m v e more k = absurd (true≢false (ap (λ (x : Taken). x.0) e))
-read_split (w ∷ us) ws m v e more k = go (is_number w m) e
-  where
-    go : (b : Bool) → ◌≡◌ {A = Taken} (true, v, ws) (cond b (true, value_of w, us) (false, 0, []))
-        → (cond b (wrong more us (k + 1)) k ≡ wrong more ws (k + 1)) × (v ≡ value_of w) × ((i : ℕ) → value_of (get_or ws i []) ≡ value_of (get_or us i []))
-    go true e =
-        let same : ws ≡ us = ap (λ (x : Taken). x.2) e in
-        (rw same, ap (λ (x : Taken). x.1) e, λ i. rw same)
-    go false e = absurd (true≢false (ap (λ (x : Taken). x.0) e))
-
-not_read : (rest ws : List (List ℕ)) (m v : ℕ) → (false, v, ws) ≡ operand_of rest m → (more : List ℕ) (k : ℕ) → wrong (m ∷ more) rest k ≡ k
-unfolding operand_of wrong
-not_read [] ws m v e more k = refl
-not_read (w ∷ us) ws m v e more k = go (is_number w m) e
-  where
-    go : (b : Bool) → ◌≡◌ {A = Taken} (false, v, ws) (cond b (true, value_of w, us) (false, 0, [])) → cond b (wrong more us (k + 1)) k ≡ k
-    go true e = absurd (true≢false (sym (ap (λ (x : Taken). x.0) e)))
-    go false e = refl
-
--- The first j operands are read, each within its limit, and these are their numbers.
-pub record Reading (limits : List ℕ) (words : List (List ℕ)) (j : ℕ) (rest : List (List ℕ)) (values : List ℕ) : Type 0 where
-  pub left : Left limits words j (drop j limits) rest
-  pub long : length values ≡ length limits
-  pub numbers : (k : ℕ) → k < j → (get_or values k 0 ≡ said words k) × (get_or values k 0 ≤ get_or limits k 0)
-
-module _ (limits : List ℕ) (words : List (List ℕ)) where
-  pub reading_start : (values : List ℕ) → length values ≡ length limits → Reading limits words 0 words values
-  reading_start values e = record { left = left_start limits words; long = e; numbers = λ k l. absurd (omega arith) }
-
-  module _ (j : ℕ) (rest : List (List ℕ)) (values : List ℕ) (w : Reading limits words j rest values) where
-    module _ (l : j < length limits) (ws : List (List ℕ)) (v : ℕ) where
-      at_hand : Left limits words j (get_or limits j 0 ∷ drop (suc j) limits) rest
-      at_hand = rw (drop-cons limits j 0 l) at w.left
-
-      pub reading_wrong : (false, v, ws) ≡ operand_of rest (get_or limits j 0) → wrong limits words 2 ≡ j + 2
-      reading_wrong e = at_hand.still ∙ not_read rest ws (get_or limits j 0) v e (drop (suc j) limits) (j + 2)
-
-      pub reading_more : (true, v, ws) ≡ operand_of rest (get_or limits j 0) → v ≤ get_or limits j 0 → Reading limits words (j + 1) ws (set values j v)
-      reading_more e m =
-          let room : j < length values = omega (arith, w.long) in
-          let s = read_split rest ws (get_or limits j 0) v e (drop (suc j) limits) (j + 2) in
-          let k : j + 2 + 1 ≡ suc j + 2 = omega arith in
-          record {
-            left = rw (add-one j) (record {
-              still = at_hand.still ∙ s.0 ∙ rw k;
-              behind = λ i. let at : j + suc i ≡ suc j + i = omega arith in s.2 i ∙ at_hand.behind (suc i) ∙ rw at;
-            });
-            long = length-set values j v ∙ w.long;
-            numbers = below_more (λ k. (get_or (set values j v) k 0 ≡ said words k) × (get_or (set values j v) k 0 ≤ get_or limits k 0)) j
-                (λ k h. let ne : k ≢ j = omega arith in rw get_or-set_other (w.numbers k h))
-                (let zero : j + 0 ≡ j = omega arith in rw get_or-set_same (s.1 ∙ at_hand.behind 0 ∙ rw zero, m));
-          }
-
-    module _ (l : length limits ≤ j) where
-      all_read : Left limits words j [] rest
-      all_read = rw (drop_of_length-le limits l) at w.left
-
-      pub reading_many : (n : ℕ) → j ≡ n → false ≡ none rest → wrong limits words 2 ≡ n + 2
-      unfolding wrong none
-      reading_many n q e = go rest all_read e ∙ rw q
-        where
-          go : (rest : List (List ℕ)) → Left limits words j [] rest → false ≡ none rest → wrong limits words 2 ≡ j + 2
-          go [] r e = absurd (true≢false (sym e))
-          go (u ∷ us) r e = r.still
-
-      pub reading_done : true ≡ none rest → wrong limits words 2 ≡ 0
-      unfolding wrong none
-      reading_done e = go rest all_read e
-        where
-          go : (rest : List (List ℕ)) → Left limits words j [] rest → true ≡ none rest → wrong limits words 2 ≡ 0
-          go [] r e = r.still
-          go (u ∷ us) r e = absurd (true≢false e)
-
--- What the line says then.
+-- A line whose operands are all right says the command.
 module _ (words : List (List ℕ)) where
-  pub node_wrong : eqb (wrong node_widths words 2) 0 ≡ false → Bad 1 (wrong node_widths words 2) ≡ node_said words
-  unfolding node_said
-  node_wrong n = rw n refl
-
   pub node_right : (a b c : ℕ) → wrong node_widths words 2 ≡ 0 → a ≡ said words 0 → b ≡ said words 1 → c ≡ said words 2 → Node a b c ≡ node_said words
   unfolding node_said
   node_right a b c e p q r = rw (e, p, q, r)
-
-  pub flow_wrong : eqb (wrong flow_widths words 2) 0 ≡ false → Bad 2 (wrong flow_widths words 2) ≡ flow_said words
-  unfolding flow_said
-  flow_wrong n = rw n refl
 
   pub flow_right : (a b c d : ℕ) → wrong flow_widths words 2 ≡ 0 → a ≡ said words 0 → b ≡ said words 1 → c ≡ said words 2 → d ≡ said words 3
       → Flow a b c d ≡ flow_said words
   unfolding flow_said
   flow_right a b c d e p q r t = rw (e, p, q, r, t)
+
+-- The place of a word by its index among the operands, behind the name; 0 where none is wrong.
+place_of : Option ℕ → ℕ
+place_of None = 0
+place_of (Some index) = index + 2
+
+wrong_at : (limits : List ℕ) (words : List (List ℕ)) (k : ℕ) → wrong limits words (k + 2) ≡ place_of (misfit limits words k)
+unfolding wrong misfit place_of
+wrong_at [] [] k = refl
+wrong_at [] (w ∷ ws) k = refl
+wrong_at (m ∷ ms) [] k = refl
+wrong_at (m ∷ ms) (w ∷ ws) k = go (is_number w m) (wrong_at ms ws (k + 1))
+  where
+    go : (b : Bool) → wrong ms ws (k + 1 + 2) ≡ place_of (misfit ms ws (k + 1)) → cond b (wrong ms ws (k + 2 + 1)) (k + 2) ≡ place_of (cond b (misfit ms ws (k + 1)) (Some k))
+    go true e = let same : k + 2 + 1 ≡ k + 1 + 2 = omega arith in rw same e
+    go false e = refl
+
+-- What the line says then.
+module _ (limits : List ℕ) (words : List (List ℕ)) where
+  fits : misfit limits words 0 ≡ None → wrong limits words 2 ≡ 0
+  unfolding place_of
+  fits e = wrong_at limits words 0 ∙ rw e
+
+  fails : (index : ℕ) → misfit limits words 0 ≡ Some index → wrong limits words 2 ≡ index + 2
+  unfolding place_of
+  fails index e = wrong_at limits words 0 ∙ rw e
+
+module _ (words : List (List ℕ)) where
+  pub node_wrong : (index : ℕ) → misfit node_widths words 0 ≡ Some index → Bad 1 (index + 2) ≡ node_said words
+  unfolding node_said
+  node_wrong index e = rw (fails node_widths words index e, ne_eqb (index + 2) 0 (λ q. absurd (omega arith))) refl
+
+  pub node_read : (a b c : ℕ) → misfit node_widths words 0 ≡ None → a ≡ said words 0 → b ≡ said words 1 → c ≡ said words 2 → Node a b c ≡ node_said words
+  node_read a b c e p q r = node_right words a b c (fits node_widths words e) p q r
+
+  pub flow_wrong : (index : ℕ) → misfit flow_widths words 0 ≡ Some index → Bad 2 (index + 2) ≡ flow_said words
+  unfolding flow_said
+  flow_wrong index e = rw (fails flow_widths words index e, ne_eqb (index + 2) 0 (λ q. absurd (omega arith))) refl
+
+  pub flow_read : (a b c d : ℕ) → misfit flow_widths words 0 ≡ None → a ≡ said words 0 → b ≡ said words 1 → c ≡ said words 2 → d ≡ said words 3
+      → Flow a b c d ≡ flow_said words
+  flow_read a b c d e p q r t = flow_right words a b c d (fits flow_widths words e) p q r t
 
 -- A command that is read is one that the line says.
 pub typed_mapped : (r : Result Command Mistake) (q : Result (Option Command) Mistake) → MatchResult r (λ x. IsOkAnd q (λ y. y ≡ Some x)) (λ e. q ≡ Err e)

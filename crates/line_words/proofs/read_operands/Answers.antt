@@ -1,9 +1,8 @@
-use mathlib.Core.Path.{refl, sym, ◌∙◌}
-use borrow.Author.Tests.{ne_eqb}
+use mathlib.Core.Path.{sym, ◌∙◌}
 use native.Mathlib.Omega.{arith}
 use Rattle.std.proofs.lemmas.List.{length-replicate}
-use Rattle.typed_line.proofs.Laws.Operands.{reading_start, reading_more, reading_wrong, reading_many, reading_done}
-use Rattle.typed_line.proofs.operands.Goals as goal
+use Rattle.line_words.proofs.Laws.Operands.{reading_start, reading_more, reading_wrong, reading_many, reading_done}
+use Rattle.line_words.proofs.read_operands.Goals as goal
 
 pub loop-i-init : goal.loop-i-init
 loop-i-init g c = reading_start _ _ _ (length-replicate _ _ ∙ sym c.told-limits)
@@ -14,13 +13,11 @@ loop-i-preserved g c =
 
 pub returns-in_default : goal.returns-in_default
 returns-in_default g c =
-    let e = reading_wrong _ _ _ _ _ c.loop-i.invariant (omega (arith, c.told-limits)) _ _ c.in_default.ensures.0 in
-    rw e (refl, ne_eqb _ _ (λ q. absurd (omega arith)))
+    (reading_wrong _ _ _ _ _ c.loop-i.invariant (omega (arith, c.told-limits)) _ _ c.in_default.ensures.0, omega arith)
 
 pub returns-then-not-blank : goal.returns-then-not-blank
 returns-then-not-blank g c =
-    let e = reading_many _ _ _ _ _ c.loop-i.invariant (omega (arith, c.told-limits)) g.row.N (omega arith) c.if-not-blank.ensures in
-    rw e (refl, ne_eqb _ _ (λ q. absurd (omega arith)))
+    (reading_many _ _ _ _ _ c.loop-i.invariant (omega (arith, c.told-limits)) g.row.N (omega arith) c.if-not-blank.ensures, omega arith)
 
 pub returns : goal.returns
 returns g c = (
