@@ -10,7 +10,8 @@ use site::Site;
 use tree::{parent_of, value_of};
 
 // The sum of the values of the links from the node up to the root.
-pub fn sum_along<'a>(values: &'a [u16], parents: &'a [u8], node: u8) -> u32
+#[tactic(auto, using(reservations::proofs::Laws::Reservations::along_up, reservations::proofs::Laws::Reservations::along_end))]
+pub fn sum_along(values: &[u16], parents: &[u8], node: u8) -> u32
     ensures { result ≡ along values.now (route parents.now node) }
 {
     let mut sum: u32 = 0;
@@ -25,27 +26,23 @@ pub fn sum_along<'a>(values: &'a [u16], parents: &'a [u8], node: u8) -> u32
     }
 }
 
-// The late flow found so far, or 64, with flow n judged by its deadline and the sum of its periods.
-pub fn first_late(late: usize, n: usize, deadline: u16, sum: u32) -> usize
+// The late flow found so far, with flow n judged by its deadline and the sum of its periods.
+pub fn first_late(late: Option<usize>, n: usize, deadline: u16, sum: u32) -> Option<usize>
     ensures { result ≡ found_with late n deadline sum }
 {
-    if late < 64 {
-        return late;
+    if late.is_none() && (deadline as u32) < sum {
+        return Some(n);
     }
-    if (deadline as u32) < sum {
-        return n;
-    }
-    64
+    late
 }
 
-// 01: G, the sum of the periods on the flow's route.
-pub fn delay_bound(site: Site, number: u8) -> u32
-    ensures { result ≡ delay_bound site number }
+// 01: G, the sum of the periods on the flow's route; a number beyond the list is no flow's.
+#[tactic(auto, using(reservations::proofs::Laws::Reservations::delay_none), unfolding(reservations::specs::Reservations::delay_bound, reservations::specs::Reservations::route_of))]
+pub fn delay_bound(site: &Site, number: u8) -> u32
+    ensures { result ≡ delay_bound site.now number }
 {
-    let n = number as usize;
-    if 64 <= n {
-        return 0;
+    match site.entries.get(number as usize) {
+        Some(entry) => sum_along(&site.periods, &site.parents, *entry),
+        None => 0,
     }
-    let entry = site.entries[n];
-    sum_along(&site.periods, &site.parents, entry)
 }

@@ -1,5 +1,5 @@
 -- 01, Reservations, and 02, U2: what live flows keep on the links of their routes.
-use Rattle.std.specs.Prelude.{ℕ, ◌+◌, ◌*◌, ◌<◌, ◌≡◌, Bool, cond, ◌&&◌, List, [], ◌∷◌, ltb, length, get_or}
+use Rattle.std.specs.Prelude.{ℕ, ◌+◌, ◌*◌, Bool, cond, ◌&&◌, List, [], ◌∷◌, ltb, get_or}
 use Rattle.lists.specs.Search.{first}
 use Rattle.site.specs.declared.Site.{Site}
 use Rattle.site.specs.Sites.{used, live}

@@ -4,7 +4,6 @@ use Rattle.site.specs.declared.Site.{Site}
 use Rattle.tree.specs.Tree.{of_link}
 use Rattle.site.specs.Sites.{live}
 use Rattle.reservations.specs.Reservations.{load, delay_bound}
-use Rattle.tree.specs.Words.{link}
 
 -- 01, Reservations: the widths on the link of node m sum to at most its capacity.
 abbrev pub Carries : Site → ℕ → Type 0

@@ -1,50 +1,22 @@
-use borrow.Author.Rules.{rules}
-use Prim.Native.Nat.{◌-◌, ◌<◌}
-use mathlib.Core.Path.{◌≡◌, refl, ◌∙◌}
-use lib.ListN.{length}
+use Prim.Native.Nat.{◌<◌}
+use mathlib.Core.Path.{◌≡◌}
 use native.Mathlib.Omega.{arith}
-use Rattle.tree.proofs.Laws.Tree.{up_within}
-use Rattle.reservations.proofs.Laws.Reservations.{full_end, full_here, full_next, width_le}
+use Rattle.std.proofs.lemmas.Bool.Decides.{nat_tests}
+use Rattle.lists.proofs.Laws.Search.{some_when}
+use Rattle.tree.specs.Tree.{route}
+use Rattle.reservations.specs.Inner.{first_full}
+use Rattle.reservations.proofs.Laws.Reservations.{full_up}
 use Rattle.link_loads.proofs.first_unfit.Goals as goal
 
-pub loop-link-init : goal.loop-link-init
-loop-link-init c = (omega arith, refl)
-
-pub returns-then-link-parent : goal.returns-then-link-parent
-returns-then-link-parent c = full_end _ _ _ _ _ _ _ c.parent_of-parent.ensures c.if-link-parent.true ∙ c.loop-link.invariant.1
-
-pub overflow_cast-i : goal.overflow_cast-i
-overflow_cast-i c = omega (arith, c.loop-link.invariant.0)
-
-pub overflow_mul-width : goal.overflow_mul-width
-overflow_mul-width c = omega (arith, width_le c.args.rate c.value_of.result (omega arith) (omega arith))
-
-pub offset_bounds-loads-i : goal.offset_bounds-loads-i
-offset_bounds-loads-i c =
-    let within : c.loop-link.link - 1 < 63 = let long : length c.args.parents.now ≡ 63 = search rules in
-    omega (arith, up_within c.args.parents.now c.loop-link.link (omega (arith, c.parent_of-parent.ensures))) in
-    omega (arith, within)
-
-pub bounds-loads-i : goal.bounds-loads-i
-bounds-loads-i c =
-    let within : c.loop-link.link - 1 < 63 = let long : length c.args.parents.now ≡ 63 = search rules in
-    omega (arith, up_within c.args.parents.now c.loop-link.link (omega (arith, c.parent_of-parent.ensures))) in
-    within
-
-pub returns-then-capacity-load : goal.returns-then-capacity-load
-returns-then-capacity-load c =
-    full_here _ _ _ _ _ _ _ c.parent_of-parent.ensures (omega arith) _ _ _ c.value_of-capacity.ensures refl c.value_of.ensures (omega arith)
-    ∙ c.loop-link.invariant.1
-
-pub returns-then-capacity-load-2 : goal.returns-then-capacity-load-2
-returns-then-capacity-load-2 c =
-    full_here _ _ _ _ _ _ _ c.parent_of-parent.ensures (omega arith) _ _ _ c.value_of-capacity.ensures refl c.value_of.ensures (omega arith)
-    ∙ c.loop-link.invariant.1
+pub returns-then-value_of-load : goal.returns-then-value_of-load
+returns-then-value_of-load c =
+    let higher : c.parent_of-parent.result < c.loop-link.link = omega arith in
+    let step = full_up c.args.site.now.capacities c.args.loads.now c.args.site.now.periods c.args.site.now.parents c.args.rate _ _ c.parent_of-parent.ensures higher in
+    let full : c.loop-link.link ≡ first_full c.args.site.now.capacities c.args.loads.now c.args.site.now.periods c.args.rate (route c.args.site.now.parents c.args.entry) = grind (arith, nat_tests) in
+    rw (← full) (some_when _ (omega arith))
 
 pub loop-link-preserved : goal.loop-link-preserved
-loop-link-preserved c = (
-  omega (arith, c.loop-link.invariant.0),
-  full_next _ _ _ _ _ _ _ c.parent_of-parent.ensures (omega arith) _ _ _ c.value_of-capacity.ensures refl c.value_of.ensures
-      (omega arith)
-      ∙ c.loop-link.invariant.1,
-)
+loop-link-preserved c =
+    let higher : c.parent_of-parent.result < c.loop-link.link = omega arith in
+    let step = full_up c.args.site.now.capacities c.args.loads.now c.args.site.now.periods c.args.site.now.parents c.args.rate _ _ c.parent_of-parent.ensures higher in
+    grind (arith, nat_tests)

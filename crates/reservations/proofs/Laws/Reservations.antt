@@ -1,22 +1,27 @@
 -- What flows keep on the links of their routes: the sums that the code makes on the way up, and how a flow more or less changes them.
-use Prim.Native.Nat.{ℕ, zero, suc, ◌+◌, ◌-◌, ◌*◌, ◌≤◌, ◌<◌}
+use Prim.Native.Nat.{ℕ, zero, suc, ◌+◌, ◌-◌, ◌*◌, ◌≤◌, ◌<◌, min}
 use mathlib.Core.Path.{◌≡◌, refl, sym, ◌∙◌, ap}
-use mathlib.Core.Bool.{Bool, true, false, cond}
+use mathlib.Core.Bool.{Bool, true, false, not, cond}
 use mathlib.Core.List.{List, [], ◌∷◌}
 use mathlib.Core.Logic.{⊎_elim}
 use lib.Dec.{eqb, ltb}
-use lib.ListN.{length, get_or, set, replicate, length-set, get_or-replicate, get_or-eq_default}
+use lib.ListN.{length, get_or, set, take, replicate, length-set, get_or-replicate, get_or-eq_default}
 use lib.Seq.{get_or-set_same, get_or-set_other, ext_get_or}
-use borrow.Author.Tests.{lt-ltb, le-ltb, ltb-true, ltb-false, eqb-true, eqb-false}
-use native.Mathlib.Nat.{mul-le-mul, zero-add}
+use borrow.Author.Tests.{eqb-true, eqb-false}
+use native.Mathlib.Nat.{mul-le-mul, zero-add, add-zero}
 use native.Mathlib.Omega.{arith}
-use Rattle.lists.specs.Search.{first_in}
-use Rattle.lists.proofs.Laws.Search.{lt_or_le, first_hit, first_miss, first_end}
+use Rattle.std.specs.Prelude.{Option, None, Some}
+use Rattle.std.specs.Option.{option_or}
+use Rattle.std.specs.List.{position, position_or_len, zip}
+use Rattle.std.proofs.lemmas.List.{length-take-le, get_or-take}
+use Rattle.std.proofs.lemmas.Slice.Zip.{length-zip, get_or-zip}
+use Rattle.lists.specs.Search.{first, first_in, some_below}
+use Rattle.lists.proofs.Laws.Search.{lt_or_le, first_hit, first_miss, first_end, below_when}
 use Rattle.site.specs.declared.Site.{Site}
 use Rattle.site.specs.declared.Flow.{Flow}
 use Rattle.tree.specs.Tree.{of_link, up, route, has}
-use Rattle.site.specs.Sites.{live, with_fields, with_flow, without_flow}
-use Rattle.reservations.specs.Reservations.{periods_judged, route_of, width_at, width_on, load, loads_of, over, unfit, first_unfit, along, late, first_late}
+use Rattle.site.specs.Sites.{used, live, with_fields, with_flow, without_flow}
+use Rattle.reservations.specs.Reservations.{periods_judged, route_of, width_at, width_on, load, loads_of, over, first_over, unfit, first_unfit, along, late, first_late}
 use Rattle.reservations.specs.Reservations.{delay_bound}
 use Rattle.lists.specs.Lists.{sum_to}
 use Rattle.reservations.specs.Inner.{carried, found_with, first_full, ReservedAs}
@@ -25,24 +30,15 @@ use Rattle.lists.proofs.Laws.Listed.{length_listed, get_or_listed}
 use Rattle.lists.proofs.Laws.Sums.{sum_more, sum_except}
 use Rattle.site.proofs.Laws.Flows.{live_here}
 
--- The sum over a route, link by link: `sum` has the links below node n. A step adds at most one entry and goes to a smaller number,
--- so the sum stays within as many entries as the first node's number.
-pub record Summing (xs p : List ℕ) (node sum n : ℕ) : Type 0 where
-  pub rest : sum + along xs (route p n) ≡ along xs (route p node)
-  pub room : sum + n * 65535 ≤ node * 65535
+-- The sum over a route, link by link: the node's link and the rest of the way up.
+module _ (xs p : List ℕ) (n u : ℕ) where
+  pub along_up : u ≡ up p n → u < n → along xs (route p n) ≡ of_link xs n + along xs (route p u)
+  unfolding along
+  along_up e h = rw (e, route_up p n (rw e at h))
 
-module _ (xs p : List ℕ) (node : ℕ) where
-  pub summing_start : Summing xs p node 0 node
-  summing_start = record { rest = omega arith; room = omega arith }
-
-  module _ (sum n u : ℕ) (s : Summing xs p node sum n) (e : u ≡ up p n) where
-    pub summing_more : (x : ℕ) → u < n → x ≡ of_link xs n → x ≤ 65535 → Summing xs p node (sum + x) u
-    unfolding along
-    summing_more x h q l = record { rest = rw (e, q) (omega (arith, rw (route_up p n (rw e at h)) at s.rest)); room = omega (arith, s.room) }
-
-    pub summing_end : n ≤ u → sum ≡ along xs (route p node)
-    unfolding along
-    summing_end h = omega (arith, rw (route_end p n (rw e at h)) at s.rest)
+  pub along_end : u ≡ up p n → n ≤ u → along xs (route p n) ≡ 0
+  unfolding along
+  along_end e h = rw (route_end p n (rw e at h))
 
 module _ (periods : List ℕ) (rate : ℕ) where
   carried_long : (ms loads : List ℕ) → length (carried periods rate ms loads) ≡ length loads
@@ -94,39 +90,16 @@ module _ (periods : List ℕ) (rate : ℕ) where
       go true = omega (arith, b (i + 1))
       go false = omega arith
 
--- A flow's width is added on the links from node n up; below it nothing is written yet.
-pub record Carrying (periods p : List ℕ) (rate entry : ℕ) (loads₀ loads : List ℕ) (n : ℕ) : Type 0 where
-  pub few : n ≤ entry
-  pub long : length loads ≡ length loads₀
-  pub rest : carried periods rate (route p n) loads ≡ carried periods rate (route p entry) loads₀
-  pub left : (i : ℕ) → i < n → get_or loads i 0 ≡ get_or loads₀ i 0
+-- The widths over a route, link by link.
+module _ (periods p loads : List ℕ) (rate n u : ℕ) where
+  pub carried_up : u ≡ up p n → u < n → carried periods rate (route p n) loads
+      ≡ carried periods rate (route p u) (set loads (n - 1) (get_or loads (n - 1) 0 + rate * of_link periods n))
+  unfolding carried width_at
+  carried_up e h = rw (e, route_up p n (rw e at h))
 
-module _ (periods p : List ℕ) (rate entry : ℕ) (loads₀ : List ℕ) where
-  pub carrying_start : Carrying periods p rate entry loads₀ loads₀ entry
-  carrying_start = record { few = omega arith; long = refl; rest = refl; left = λ i l. refl }
-
-  module _ (loads : List ℕ) (n u : ℕ) (s : Carrying periods p rate entry loads₀ loads n) (e : u ≡ up p n) where
-    pub carrying_more : (x : ℕ) → u < n → x ≡ of_link periods n
-        → Carrying periods p rate entry loads₀ (set loads (n - 1) (get_or loads (n - 1) 0 + rate * x)) u
-    unfolding carried width_at
-    carrying_more x h q = record {
-      few = omega (arith, s.few);
-      long = rw length-set s.long;
-      rest = rw (e, q) (rw (route_up p n (rw e at h)) at s.rest);
-      left = λ i l. get_or-set_other loads (n - 1) i _ 0 (λ z. omega arith) ∙ s.left i (omega arith);
-    }
-
-    pub carrying_end : n ≤ u → loads ≡ carried periods rate (route p entry) loads₀
-    unfolding carried
-    carrying_end h = rw (route_end p n (rw e at h)) at s.rest
-
-    -- A node with a way up has a link.
-    pub carrying_within : length loads₀ ≡ length p → u < n → n - 1 < length loads
-    carrying_within l h = omega (arith, s.long, up_within p n (rw e at h))
-
-    -- Its load is the one of the start, and so bounded.
-    pub carrying_le : (most : ℕ) → ((i : ℕ) → get_or loads₀ i 0 ≤ most) → u < n → get_or loads (n - 1) 0 ≤ most
-    carrying_le most b h = rw (s.left (n - 1) (omega arith)) (b (n - 1))
+  pub carried_end : u ≡ up p n → n ≤ u → carried periods rate (route p n) loads ≡ loads
+  unfolding carried
+  carried_end e h = rw (route_end p n (rw e at h))
 
 -- The product of a u8 and a u16.
 pub width_le : (rate x : ℕ) → rate ≤ 255 → x ≤ 65535 → rate * x ≤ 16711425
@@ -162,33 +135,23 @@ module _ (s : Site) (n : ℕ) where
   unfolding late
   late_judged sum e q = rw (e, q)
 
--- The flows below n are done: the loads are the sums of their widths, and the late flow found is the first of all; 64 where none of them is late.
-pub record Judging (s : Site) (n : ℕ) (loads : List ℕ) (found : ℕ) : Type 0 where
+-- The flows below n are done: the loads are the sums of their widths, and the late flow found, or else the first one from n on, is the first of all.
+pub record Judging (s : Site) (n : ℕ) (loads : List ℕ) (found : Option ℕ) : Type 0 where
   pub long : length loads ≡ 63
   pub each : (i : ℕ) → i < 63 → get_or loads i 0 ≡ sum_to (width_on s (i + 1)) n
-  pub most : found ≤ 64
-  pub none : found ≡ 64 → first_in (late s) 64 n ≡ first_late s
-  pub some : found < 64 → found ≡ first_late s
+  pub flow : option_or found (some_below 64 (first_in (late s) 64 n)) ≡ some_below 64 (first_late s)
 
 module _ (s : Site) where
-  pub judging_start : Judging s 0 (replicate 63 0) 64
+  pub judging_start : Judging s 0 (replicate 63 0) None
   unfolding sum_to first_late
-  judging_start = record {
-    long = refl;
-    each = λ i l. get_or-replicate {A = ℕ} 63 i 0 0 l;
-    most = omega arith;
-    none = λ e. refl;
-    some = λ l. absurd (omega arith);
-  }
+  judging_start = record { long = refl; each = λ i l. get_or-replicate {A = ℕ} 63 i 0 0 l; flow = refl }
 
-  module _ (n : ℕ) (loads : List ℕ) (found : ℕ) (few : n < 64) (w : Judging s n loads found) where
+  module _ (n : ℕ) (loads : List ℕ) (found : Option ℕ) (few : n < 64) (w : Judging s n loads found) where
     pub judging_idle : live s n ≡ false → Judging s (n + 1) loads found
     judging_idle d = record {
       long = w.long;
       each = λ i l. w.each i l ∙ omega (arith, sum_more (width_on s (i + 1)) n, width_none s (i + 1) n d);
-      most = w.most;
-      none = λ e. sym (first_miss (late s) 64 n few (late_none s n d)) ∙ w.none e;
-      some = w.some;
+      flow = rw (← first_miss (late s) 64 n few (late_none s n d)) w.flow;
     }
 
     -- A live flow: its widths and the sum of its periods come from one way up.
@@ -211,85 +174,85 @@ module _ (s : Site) where
       )
 
       pub judging_live : Judging s (n + 1) next (found_with found n (get_or s.deadlines n 0) sum)
-      unfolding found_with
       judging_live = record {
         long = rw up.1 (carried_long (periods_judged s) (get_or s.rates n 0) (route s.parents (get_or s.entries n 0)) loads ∙ w.long);
         each = more;
-        most = go_most (ltb found 64) refl (ltb (get_or s.deadlines n 0) sum);
-        none = go_none (ltb found 64) refl (ltb (get_or s.deadlines n 0) sum) judged;
-        some = go_some (ltb found 64) refl (ltb (get_or s.deadlines n 0) sum) judged;
+        flow = go found (ltb (get_or s.deadlines n 0) sum) judged w.flow;
       }
         where
-          unfound : ltb found 64 ≡ false → found ≡ 64
-          unfound e = omega (arith, ltb-false found 64 e, w.most)
+          go : (f : Option ℕ) (t : Bool) → late s n ≡ t → option_or f (some_below 64 (first_in (late s) 64 n)) ≡ some_below 64 (first_late s)
+              → option_or (option_or f (cond t (Some n) None)) (some_below 64 (first_in (late s) 64 (n + 1))) ≡ some_below 64 (first_late s)
+          go (Some m) t j e = e
+          go None true j e = below_when 64 n few ∙ rw (first_hit (late s) 64 n few j) at e
+          go None false j e = rw (← first_miss (late s) 64 n few j) e
 
-          go_most : (a : Bool) → ltb found 64 ≡ a → (b : Bool) → cond a found (cond b n 64) ≤ 64
-          go_most true e b = omega (arith, w.most)
-          go_most false e true = omega arith
-          go_most false e false = omega arith
-
-          go_none : (a : Bool) → ltb found 64 ≡ a → (b : Bool) → late s n ≡ b → cond a found (cond b n 64) ≡ 64 → first_in (late s) 64 (n + 1) ≡ first_late s
-          go_none true e b j z = absurd (omega (arith, ltb-true found 64 e))
-          go_none false e true j z = absurd (omega arith)
-          go_none false e false j z = sym (first_miss (late s) 64 n few j) ∙ w.none (unfound e)
-
-          go_some : (a : Bool) → ltb found 64 ≡ a → (b : Bool) → late s n ≡ b → cond a found (cond b n 64) < 64 → cond a found (cond b n 64) ≡ first_late s
-          go_some true e b j z = w.some z
-          go_some false e true j z = sym (first_hit (late s) 64 n few j) ∙ w.none (unfound e)
-          go_some false e false j z = absurd (omega arith)
-
-  -- With all flows done the loads are those of the site.
-  judging_whole : (loads : List ℕ) (found : ℕ) → Judging s 64 loads found → ReservedAs s loads found
+  -- With all flows done the loads are those of the site, and no late flow is to come.
+  pub judging_end : (loads : List ℕ) (found : Option ℕ) → Judging s 64 loads found → ReservedAs s loads found
   unfolding load loads_of
-  judging_whole loads found w = record {
+  judging_end loads found w = record {
     sums = ext_get_or 0 loads _ (w.long ∙ sym (length_listed (λ i. load s (i + 1)) 63 0))
         (λ k l. w.each k (omega (arith, w.long)) ∙ sym (get_or_listed (λ i. load s (i + 1)) 63 0 k (omega (arith, w.long)) ∙ rw zero-add));
-    flow = ⊎_elim w.some (λ l. let e : found ≡ 64 = omega (arith, w.most) in e ∙ sym (first_end (late s) 64 64 (omega arith)) ∙ w.none e) (lt_or_le found 64);
+    flow = go found (rw (first_end (late s) 64 64 (omega arith)) at w.flow);
   }
-
-  -- No flow from n on is live: then what is found below n is all that there is.
-  pub judging_end : (r n : ℕ) (loads : List ℕ) (found : ℕ) → n + r ≡ 64 → ((k : ℕ) → n ≤ k → k < 64 → live s k ≡ false) → Judging s n loads found
-      → ReservedAs s loads found
-  judging_end zero n loads found e none w = let z : n ≡ 64 = omega arith in judging_whole loads found (rw z at w)
-  judging_end (suc r) n loads found e none w =
-      judging_end r (n + 1) loads found (omega arith) (λ k a b. none k (omega arith) b)
-      (judging_idle n loads found (omega arith) w (none n (omega arith) (omega arith)))
+    where
+      go : (f : Option ℕ) → option_or f (some_below 64 64) ≡ some_below 64 (first_late s) → f ≡ some_below 64 (first_late s)
+      go (Some m) e = e
+      go None e = e
 
 -- The load of a link in the list of all.
 pub load_in : (s : Site) (loads : List ℕ) → loads ≡ loads_of s → (i : ℕ) → i < 63 → get_or loads i 0 ≡ load s (i + 1)
 unfolding loads_of
 load_in s loads e i l = rw e (get_or_listed (λ k. load s (k + 1)) 63 0 i l ∙ rw zero-add)
 
--- Whether a link is over its capacity, by its load in a list of loads.
-module _ (s : Site) (i capacity x : ℕ) (a : capacity ≡ of_link s.capacities (i + 1)) (e : x ≡ load s (i + 1)) where
-  over_test : over s i ≡ ltb capacity x
-  unfolding over
-  over_test = let k : i + 1 - 1 ≡ i = omega arith in rw (a, e, ← link_in s.capacities (i + 1) (omega arith), k)
+loads_long : (s : Site) → length (loads_of s) ≡ 63
+unfolding loads_of
+loads_long s = length_listed (λ i. load s (i + 1)) 63 0
 
-  pub over_yes : capacity < x → over s i ≡ true
-  over_yes l = over_test ∙ lt-ltb _ _ l
+-- What the library finds in a list that agrees with a test of numbers, from c on.
+position_first : {A : Type 0} (p : A → Bool) (q : ℕ → Bool) (d : A) (xs : List A) (c : ℕ)
+    → ((i : ℕ) → i < length xs → q (c + i) ≡ p (get_or xs i d)) → c + position_or_len p xs ≡ first q (length xs) c
+unfolding first
+position_first p q d [] c h = omega arith
+position_first p q d (x ∷ xs) c h =
+    go (p x) (rw add-zero at (h 0 (omega arith)))
+    (position_first p q d xs (c + 1) (λ i l. let e : c + 1 + i ≡ c + suc i = omega arith in rw e (h (suc i) (omega arith))))
+  where
+    go : (t : Bool) → q c ≡ t → c + 1 + position_or_len p xs ≡ first q (length xs) (c + 1)
+        → c + cond (not t) (1 + position_or_len p xs) 0 ≡ cond (q c) c (first q (length xs) (c + 1))
+    go true e ih = rw e (omega arith)
+    go false e ih = rw e (omega (arith, ih))
 
-  pub over_no : x ≤ capacity → over s i ≡ false
-  over_no l = over_test ∙ le-ltb _ _ l
+-- The first link of a site that is over its capacity, by a list of the loads.
+pub over_found : (s : Site) (loads : List ℕ) → length s.capacities ≡ 63 → loads ≡ loads_of s
+    → position (λ (x : ℕ × ℕ). ltb x.1 x.0) (take (used s.links) (zip loads s.capacities)) ≡ some_below (used s.links) (first_over s)
+unfolding used first_over over
+over_found s loads long sums =
+    let few : length loads ≡ 63 = rw sums (loads_long s) in
+    let both : length (zip loads s.capacities) ≡ 63 = omega (arith, length-zip loads s.capacities) in
+    let all : length (take (min s.links 63) (zip loads s.capacities)) ≡ min s.links 63 = length-take-le _ _ (omega arith) in
+    let found = position_first (λ (x : ℕ × ℕ). ltb x.1 x.0) (over s) (0, 0) (take (min s.links 63) (zip loads s.capacities)) 0 (λ i l. here i (omega arith)) in
+    rw (all, ← zero-add (position_or_len _ _), found, all)
+  where
+    here : (i : ℕ) → i < min s.links 63 → over s (0 + i) ≡ ltb (get_or (take (min s.links 63) (zip loads s.capacities)) i (0, 0)).1 (get_or (take (min s.links 63) (zip loads s.capacities)) i (0, 0)).0
+    here i l =
+        let few : length loads ≡ 63 = rw sums (loads_long s) in
+        rw (get_or-take (min s.links 63) (zip loads s.capacities) i (0, 0) l, get_or-zip loads s.capacities i (0, 0) (omega arith) (omega arith), load_in s loads sums i (omega arith), zero-add)
 
--- The way up of a flow with this rate, by a list of what the links carry: node n has the parent u.
-module _ (capacities loads periods p : List ℕ) (rate n u : ℕ) (e : u ≡ up p n) where
-  pub full_end : n ≤ u → 0 ≡ first_full capacities loads periods rate (route p n)
+-- The way up of a flow with this rate, by a list of what the links carry, link by link.
+module _ (capacities loads periods p : List ℕ) (rate n u : ℕ) where
+  pub full_end : u ≡ up p n → n ≤ u → first_full capacities loads periods rate (route p n) ≡ 0
   unfolding first_full
-  full_end l = rw (route_end p n (rw e at l))
+  full_end e l = rw (route_end p n (rw e at l))
 
-  -- The capacity, the load and the period of its link.
-  module _ (h : u < n) (capacity load g : ℕ) (a : capacity ≡ of_link capacities n) (b : load ≡ get_or loads (n - 1) 0) (q : g ≡ of_link periods n) where
-    full_step : first_full capacities loads periods rate (route p n)
-        ≡ cond (ltb capacity (load + rate * g)) n (first_full capacities loads periods rate (route p u))
-    unfolding first_full width_at
-    full_step = rw (route_up p n (rw e at h), a, b, q, link_in loads n (omega arith), e)
+  pub full_up : u ≡ up p n → u < n → first_full capacities loads periods rate (route p n)
+      ≡ cond (ltb (of_link capacities n) (get_or loads (n - 1) 0 + rate * of_link periods n)) n (first_full capacities loads periods rate (route p u))
+  unfolding first_full width_at
+  full_up e h = rw (e, route_up p n (rw e at h), link_in loads n (omega arith))
 
-    pub full_here : capacity < load + rate * g → n ≡ first_full capacities loads periods rate (route p n)
-    full_here l = rw (full_step, lt-ltb _ _ l)
+-- What the walks up a route need.
+pub ruleset walking = (along_up, along_end, carried_up, carried_end, width_le, up_within)
 
-    pub full_next : load + rate * g ≤ capacity → first_full capacities loads periods rate (route p u) ≡ first_full capacities loads periods rate (route p n)
-    full_next l = rw (full_step, le-ltb _ _ l)
+pub ruleset unfitting = (full_up, full_end, width_le, up_within)
 
 -- With the loads of a site these are its own links without room.
 module _ (s : Site) (rate : ℕ) (long : length s.parents ≡ 63) where
