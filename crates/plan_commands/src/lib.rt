@@ -1,105 +1,92 @@
 // The commands of a plan, each by itself: its operands and its checks. What bytes come to as a whole is for the reader.
 #![tactic(auto)]
 
-ghost use Rattle.std.specs.Prelude.{◌≡◌, ◌-◌};
+ghost use Rattle.std.specs.Prelude.{◌≡◌, ◌+◌, cond, leb, length, replicate};
+ghost use Rattle.rulings.specs.Outcome.{fault_number};
 ghost use Rattle.plan_commands.specs.Commands.{Draft, node_fault};
-ghost use Rattle.plan_commands.specs.Inner.{Known, more_behind, node_within, flow_within, fault_at};
+ghost use Rattle.plan_commands.specs.Inner.{Known, operands_of, more_behind, node_within, flow_within, fault_at};
 
+use format::NODE;
 use limits::Node;
-use site::Flow;
+use rulings::Fault;
+use site::{Flow, Site};
 
-// How many of so many bytes stand from index `at` on, the one at `at` among them.
-fn left_from(size: usize, at: usize) -> usize
-    ensures { result ≡ size - at }
+// The five bytes of operands of the command at index `at`, zeros where not all of them are there.
+fn operands(bytes: &[u8], at: usize) -> [u8; 5]
+    ensures { result ≡ cond (leb (at + 6) (length bytes.now)) (operands_of bytes.now at) (replicate 5 0) }
 {
-    if size <= at {
-        return 0;
+    match bytes.get(at..) {
+        Some([_, a, b, c, d, e, ..]) => [*a, *b, *c, *d, *e],
+        _ => [0; 5],
     }
-    size - at
-}
-
-// 4 and 7 for a NODE, then 5, 6 and 8.
-fn node_fault(links: u8, next: u8, parents: &[u8; 63], node: Node) -> u8
-    ensures { (d : Draft) → Known d links next parents.now → result ≡ node_fault d node }
-{
-    if 0 < next {
-        return 4;
-    }
-    if 63 <= links {
-        return 7;
-    }
-    limits::node_limits(parents, links, node)
 }
 
 // The operands of the NODE at index `at`, zeros where not all of its bytes are there.
+#[tactic(auto, using(format::proofs::Laws::number_one, format::proofs::Laws::number_two), unfolding(crate::specs::Inner::node_within, crate::specs::Commands::node_at))]
 pub fn node_at(bytes: &[u8], at: usize) -> Node
     ensures { result ≡ node_within bytes.now at }
 {
-    let left = left_from(bytes.len(), at);
-    if left < 6 {
-        return Node {
-            parent: 0,
-            capacity: 0,
-            gap: 0,
-        };
-    }
+    let [parent, capacity_low, capacity_high, gap_low, gap_high] = operands(bytes, at);
     Node {
-        parent: bytes[at + 1],
-        capacity: format::word(bytes[at + 2], bytes[at + 3]),
-        gap: format::word(bytes[at + 4], bytes[at + 5]),
+        parent,
+        capacity: format::word(capacity_low, capacity_high),
+        gap: format::word(gap_low, gap_high),
     }
 }
 
 // The operands of the FLOW at index `at`, zeros where not all of its bytes are there.
+#[tactic(auto, using(format::proofs::Laws::number_one, format::proofs::Laws::number_two), unfolding(crate::specs::Inner::flow_within, crate::specs::Commands::flow_at))]
 pub fn flow_at(bytes: &[u8], at: usize) -> Flow
     ensures { result ≡ flow_within bytes.now at }
 {
-    let left = left_from(bytes.len(), at);
-    if left < 6 {
-        return Flow {
-            number: 0,
-            entry: 0,
-            rate: 0,
-            deadline: 0,
-        };
-    }
+    let [number, entry, rate, deadline_low, deadline_high] = operands(bytes, at);
     Flow {
-        number: bytes[at + 1],
-        entry: bytes[at + 2],
-        rate: bytes[at + 3],
-        deadline: format::word(bytes[at + 4], bytes[at + 5]),
+        number,
+        entry,
+        rate,
+        deadline: format::word(deadline_low, deadline_high),
     }
 }
 
-// The first check that the command at index `at` fails, 0 where it fails none. It is not END. Behind the last byte it is 2: nothing is there.
-pub fn fault_at<'a>(bytes: &'a [u8], at: usize, links: u8, next: u8, parents: &'a [u8; 63]) -> u8
-    ensures { (d : Draft) → Known d links next parents.now → result ≡ fault_at bytes.now at d }
+// 4 and 7 for a NODE, then 5, 6 and 8.
+#[tactic(auto, unfolding(crate::specs::Commands::node_fault))]
+fn judge_node(site: &Site, next: u8, node: Node) -> Result<(), Fault>
+    ensures { (d : Draft) → Known d site.now.links next site.now.parents → fault_number result ≡ node_fault d node }
 {
-    let left = left_from(bytes.len(), at);
-    if left == 0 {
-        return 2;
+    if 0 < next {
+        return Err(Fault::NodeBehindFlow);
     }
-    let tag = bytes[at];
+    if 63 <= site.links {
+        return Err(Fault::TooManyNodes);
+    }
+    limits::node_limits(&site.parents, site.links, node)
+}
+
+// The first check that the command at index `at` fails. It is not END. Behind the last byte it is 2: nothing is there.
+#[tactic(auto, unfolding(crate::specs::Inner::fault_at, format::specs::Reading::fault_of, format::specs::Commands::size_of, crate::specs::Commands::later_fault, crate::specs::Inner::node_within, crate::specs::Inner::flow_within, crate::specs::Commands::flow_fault))]
+pub fn judge_command(bytes: &[u8], at: usize, site: &Site, next: u8) -> Result<(), Fault>
+    ensures { (d : Draft) → Known d site.now.links next site.now.parents → fault_number result ≡ fault_at bytes.now at d }
+{
+    let Some(&tag) = bytes.get(at) else {
+        return Err(Fault::CutOff);
+    };
     let size = format::size(tag);
     if size == 0 {
-        return 3;
+        return Err(Fault::UnknownCommand);
     }
-    if left < size {
-        return 2;
+    if bytes.len() - at < size {
+        return Err(Fault::CutOff);
     }
-    if tag == 1 {
-        return node_fault(links, next, parents, node_at(bytes, at));
+    if tag == NODE {
+        return judge_node(site, next, node_at(bytes, at));
     }
-    limits::flow_limits(links, next, flow_at(bytes, at))
+    limits::flow_limits(site.links, next, flow_at(bytes, at))
 }
 
 // 10 for an END at index `at`.
+#[tactic(auto, unfolding(crate::specs::Inner::more_behind))]
 pub fn more_behind(size: usize, at: usize) -> bool
     ensures { result ≡ more_behind size at }
 {
-    let left = left_from(size, at);
-    if 1 < left {
-        return true;
-    }
-    false
+    1 < size.saturating_sub(at)
 }

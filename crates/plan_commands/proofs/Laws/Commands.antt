@@ -5,19 +5,17 @@ use mathlib.Core.Bool.{Bool, true, false}
 use mathlib.Core.List.{List}
 use lib.Dec.{ltb, leb}
 use lib.ListN.{length, get_or}
-use borrow.Author.Tests.{lt-ltb, le-ltb, le-leb, lt-leb, eq-eqb, ne_eqb, ltb-true, ltb-false, leb-false}
+use borrow.Author.Tests.{lt-ltb, le-leb, ltb-true, ltb-false, leb-false}
 use native.Mathlib.Omega.{arith}
 use Rattle.site.specs.declared.Flow.{Flow}
 use Rattle.limits.specs.declared.Node.{Node}
-use Rattle.limits.specs.Limits.{node_limits}
 use Rattle.limits.specs.Words.{NodeGood}
 use Rattle.limits.proofs.Laws.Forms.{node_good, flow_good}
 use Rattle.rulings.specs.Outcome.{accepted, refused}
 use Rattle.rulings.proofs.Laws.Choices.{passed}
-use Rattle.format.specs.Commands.{size_of}
 use Rattle.format.proofs.Laws.{number_one, number_two}
-use Rattle.format.proofs.Laws.Reading.{fault_later, ended_more, ended_last}
-use Rattle.plan_commands.specs.Commands.{Draft, node_at, flow_at, node_fault, flow_fault, later_fault, plans, fault}
+use Rattle.format.proofs.Laws.Reading.{ended_more, ended_last}
+use Rattle.plan_commands.specs.Commands.{Draft, node_at, flow_at, node_fault, flow_fault, plans, fault}
 use Rattle.plan_commands.specs.Inner.{more_behind, node_within, flow_within, fault_at}
 
 -- What a NODE has that passes: no FLOW before it, room, and its limits.
@@ -30,23 +28,9 @@ node_passed d n e =
     let z : d.next ≤ 0 = ltb-false _ _ a.0 in
     (omega arith, leb-false _ _ b.0, (node_good d.site.parents d.site.links n).0 b.1)
 
--- A NODE after what has been read.
-module _ (d : Draft) (n : Node) where
-  pub node_late : 0 < d.next → 4 ≡ node_fault d n
-  unfolding node_fault
-  node_late l = simp (lt-ltb _ _ l)
-
-  pub node_full : d.next ≤ 0 → 63 ≤ d.site.links → 7 ≡ node_fault d n
-  unfolding node_fault
-  node_full h l = simp (le-ltb _ _ h, le-leb _ _ l)
-
-  pub node_rest : d.next ≤ 0 → d.site.links < 63 → (r : ℕ) → r ≡ node_limits d.site.parents d.site.links n → r ≡ node_fault d n
-  unfolding node_fault
-  node_rest h l r e = e ∙ simp (le-ltb _ _ h, lt-leb _ _ l)
-
-  -- A NODE that passes has room.
-  pub node_room : node_fault d n ≡ 0 → d.site.links < 63
-  node_room e = (node_passed d n e).1
+-- A NODE that passes has room.
+pub node_room : (d : Draft) (n : Node) → node_fault d n ≡ 0 → d.site.links < 63
+node_room d n e = (node_passed d n e).1
 
 -- A FLOW that passes has one of the 64 numbers, and none below the next.
 pub flow_number : (d : Draft) (f : Flow) → flow_fault d f ≡ 0 → (f.number < 64) × (d.next ≤ f.number)
@@ -69,26 +53,6 @@ module _ (bytes : List ℕ) (at : ℕ) where
       rw (number_one bytes (at + 1), number_one bytes (at + 2), number_one bytes (at + 3), number_two bytes (at + 4) (at + 5) (omega arith))
       (λ i. record { number = en i; entry = ee i; rate = er i; deadline = et i })
 
--- Its own checks, where it is known and lies within the bytes. m stands for its size.
-module _ (bytes : List ℕ) (at : ℕ) (d : Draft) (m : ℕ) (is : m ≡ size_of (get_or bytes at 0)) (known : m ≡ 0 → ⊥) (l : at + m ≤ length bytes) (r : ℕ) where
-  pub fault_node : get_or bytes at 0 ≡ 1 → (n : Node) → n ≡ node_at bytes at → r ≡ node_fault d n → r ≡ fault bytes at d
-  unfolding later_fault
-  fault_node one n q f = fault_later plans bytes at d m is known l r (rw (eq-eqb _ _ one, ← q) f)
-
-  pub fault_flow : (get_or bytes at 0 ≡ 1 → ⊥) → (f : Flow) → f ≡ flow_at bytes at → r ≡ flow_fault d f → r ≡ fault bytes at d
-  unfolding later_fault
-  fault_flow other f q g = fault_later plans bytes at d m is known l r (rw (ne_eqb _ _ other, ← q) g)
-
--- Whether bytes stand behind an END at index `at`.
-module _ (size at : ℕ) where
-  pub behind_yes : at + 1 < size → true ≡ more_behind size at
-  unfolding more_behind
-  behind_yes l = sym (lt-ltb _ _ l)
-
-  pub behind_no : size ≤ at + 1 → false ≡ more_behind size at
-  unfolding more_behind
-  behind_no l = sym (le-ltb _ _ l)
-
 -- What END at index `at` comes to, by what was told of it.
 module _ (size at : ℕ) (d : Draft) (t : Bool) (is : t ≡ more_behind size at) where
   pub end_more : t ≡ true → refused 10 (at + 1) ≡ plans.end size at d
@@ -99,7 +63,7 @@ module _ (size at : ℕ) (d : Draft) (t : Bool) (is : t ≡ more_behind size at)
   unfolding more_behind
   end_last e = sym (ended_last size at d.site (ltb-false _ _ (sym is ∙ e)))
 
--- Operands where all of their bytes are there, and where not.
+-- Operands where all of their bytes are there.
 module _ (bytes : List ℕ) (at : ℕ) where
   pub node_whole : at + 5 < length bytes → node_within bytes at ≡ node_at bytes at
   unfolding node_within
@@ -109,20 +73,7 @@ module _ (bytes : List ℕ) (at : ℕ) where
   unfolding flow_within
   flow_whole l = simp (le-leb (at + 6) (length bytes) (omega arith))
 
-  pub node_short : length bytes ≤ at + 5 → record { parent = 0; capacity = 0; gap = 0 } ≡ node_within bytes at
-  unfolding node_within
-  node_short l = simp (lt-leb (at + 6) (length bytes) (omega arith))
-
-  pub flow_short : length bytes ≤ at + 5 → record { number = 0; entry = 0; rate = 0; deadline = 0 } ≡ flow_within bytes at
-  unfolding flow_within
-  flow_short l = simp (lt-leb (at + 6) (length bytes) (omega arith))
-
-  -- The checks of what stands at index `at`: those of a command, and 2 where there is none.
-  module _ (d : Draft) where
-    pub fault_at_command : at < length bytes → fault_at bytes at d ≡ fault bytes at d
-    unfolding fault_at
-    fault_at_command l = simp (lt-ltb _ _ l)
-
-    pub fault_at_behind : length bytes ≤ at → 2 ≡ fault_at bytes at d
-    unfolding fault_at
-    fault_at_behind l = simp (le-ltb _ _ l)
+  -- The checks of what stands there are those of a command.
+  pub fault_at_command : (d : Draft) → at < length bytes → fault_at bytes at d ≡ fault bytes at d
+  unfolding fault_at
+  fault_at_command d l = simp (lt-ltb _ _ l)
