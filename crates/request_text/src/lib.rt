@@ -1,16 +1,16 @@
 // What a planner's line asks for by its name and the numbers behind it: every line but that of a slot.
 #![tactic(auto)]
 
-ghost use Rattle.std.specs.Prelude.{◌≡◌, ◌&&◌, drop};
-ghost use Rattle.line_words.specs.Words.{words_of, none};
+ghost use Rattle.std.specs.Prelude.{◌≡◌, drop};
+ghost use Rattle.line_words.specs.Words.{words_of};
 ghost use Rattle.request_text.specs.Requests.{lone_of, admit_line, release_line, sender_line, flow_question, other_of};
 
-use line_words::{Operand, blank, next_operand};
+use line_words::{blank, read_operands};
 use site::Flow;
 use slices::same;
 
 // A call that may change the site or the counters, with its operands; the arrivals of a slot stand beside it.
-#[derive(Clone, Copy)]
+#[derive(Clone, Copy, PartialEq, Eq, Debug)]
 pub enum Call {
     Start,
     Slot(u32),
@@ -19,7 +19,7 @@ pub enum Call {
 }
 
 // What can be shown of the site and the counters as they are.
-#[derive(Clone, Copy)]
+#[derive(Clone, Copy, PartialEq, Eq, Debug)]
 pub enum Question {
     Sender(u8, u32),
     Cells(u8),
@@ -31,7 +31,7 @@ pub enum Question {
 }
 
 // A line that is not passed over makes a call, asks a question or is malformed.
-#[derive(Clone, Copy)]
+#[derive(Clone, Copy, PartialEq, Eq, Debug)]
 pub enum Line {
     PassedOver,
     Makes(Call),
@@ -39,17 +39,8 @@ pub enum Line {
     Malformed,
 }
 
-// Whether this operand, and with it each before it, is given and is the last word of the line.
-fn complete(line: &[u8], last: Operand) -> bool
-    ensures { result ≡ (last.given && none (words_of (drop last.next line.now))) }
-{
-    if !last.given {
-        return false;
-    }
-    blank(line, last.next)
-}
-
 // `start`, `plan`, `schedule`, `show` and `typed` have no operands.
+#[tactic(auto, unfolding(crate::specs::Requests::lone_of))]
 fn lone_line(name: &[u8]) -> Line
     ensures { result ≡ lone_of name.now }
 {
@@ -74,18 +65,15 @@ fn lone_line(name: &[u8]) -> Line
 fn admit_line(line: &[u8], from: usize) -> Line
     ensures { result ≡ admit_line (words_of (drop from line.now)) }
 {
-    let number = next_operand(line, from, 255);
-    let entry = next_operand(line, number.next, 255);
-    let rate = next_operand(line, entry.next, 255);
-    let deadline = next_operand(line, rate.next, 65535);
-    if !complete(line, deadline) {
+    let Ok(operands) = read_operands(line, from, &[255, 255, 255, 65535]) else {
         return Line::Malformed;
-    }
+    };
+    let [number, entry, rate, deadline] = operands;
     Line::Makes(Call::Admit(Flow {
-        number: number.value as u8,
-        entry: entry.value as u8,
-        rate: rate.value as u8,
-        deadline: deadline.value as u16,
+        number: number as u8,
+        entry: entry as u8,
+        rate: rate as u8,
+        deadline: deadline as u16,
     }))
 }
 
@@ -93,43 +81,42 @@ fn admit_line(line: &[u8], from: usize) -> Line
 fn release_line(line: &[u8], from: usize) -> Line
     ensures { result ≡ release_line (words_of (drop from line.now)) }
 {
-    let number = next_operand(line, from, 255);
-    if !complete(line, number) {
+    let Ok(operands) = read_operands(line, from, &[255]) else {
         return Line::Malformed;
-    }
-    Line::Makes(Call::Release(number.value as u8))
+    };
+    let [number] = operands;
+    Line::Makes(Call::Release(number as u8))
 }
 
 fn sender_line(line: &[u8], from: usize) -> Line
     ensures { result ≡ sender_line (words_of (drop from line.now)) }
 {
-    let parent = next_operand(line, from, 255);
-    let slot = next_operand(line, parent.next, 4294967295);
-    if !complete(line, slot) {
+    let Ok(operands) = read_operands(line, from, &[255, 4294967295]) else {
         return Line::Malformed;
-    }
-    Line::Asks(Question::Sender(parent.value as u8, slot.value))
+    };
+    let [parent, slot] = operands;
+    Line::Asks(Question::Sender(parent as u8, slot))
 }
 
 // `cells` and `bound` have one operand, which is one of the 64 flow numbers.
 fn flow_line(name: &[u8], line: &[u8], from: usize) -> Line
     ensures { result ≡ flow_question name.now (words_of (drop from line.now)) }
 {
-    let flow = next_operand(line, from, 63);
-    if !complete(line, flow) {
+    let Ok(operands) = read_operands(line, from, &[63]) else {
         return Line::Malformed;
-    }
-    let number = flow.value as u8;
+    };
+    let [flow] = operands;
     if same(name, b"cells") {
-        return Line::Asks(Question::Cells(number));
+        return Line::Asks(Question::Cells(flow as u8));
     }
     if same(name, b"bound") {
-        return Line::Asks(Question::Bound(number));
+        return Line::Asks(Question::Bound(flow as u8));
     }
     Line::Malformed
 }
 
 // A line of any name but `slot`, whose operands stand from `from` on.
+#[tactic(auto, unfolding(crate::specs::Requests::other_of))]
 pub fn read_request(name: &[u8], line: &[u8], from: usize) -> Line
     ensures { result ≡ other_of name.now (words_of (drop from line.now)) }
 {

@@ -1,111 +1,104 @@
 -- The words N=K of a slot, one by one.
-use Prim.Native.Nat.{ℕ, ◌+◌, ◌-◌, ◌≤◌}
+use Prim.Native.Nat.{ℕ, ◌+◌, ◌-◌, ◌≤◌, ◌<◌}
 use mathlib.Core.Path.{◌≡◌, refl, sym, ◌∙◌, ap}
-use mathlib.Core.Bool.{Bool, true, false, cond, not, true≢false, and-false}
+use mathlib.Core.Bool.{Bool, true, false, cond, not, ◌&&◌, and-false}
 use mathlib.Core.List.{List, [], ◌∷◌}
 use lib.ListN.{length, get_or, take, drop, set, replicate, length-take, length-drop, length-set, drop_of_length-le}
 use lib.Seq.{take_all}
-use borrow.Author.Tests.{not-true, not-false}
 use native.Mathlib.Omega.{arith}
+use Rattle.std.specs.Prelude.{Option, Some, None}
+use Rattle.std.proofs.lemmas.Option.{none-some, same_Some, some_pair_parts}
 use Rattle.text.specs.Decimal.{value_of, is_number, given}
-use Rattle.line_words.specs.Parts.{is, Reaches}
-use Rattle.line_words.specs.Words.{words_of, none, NextWord}
-use Rattle.line_words.proofs.Laws.Parts.{before_reached}
-use Rattle.line_words.proofs.Laws.Words.{no_words, word_begins, first_word}
+use Rattle.line_words.specs.Parts.{is, FoundFrom}
+use Rattle.line_words.specs.Words.{words_of, NextWord}
+use Rattle.line_words.proofs.Laws.Parts.{found_front}
+use Rattle.line_words.proofs.Laws.Words.{no_word, first_word}
 use Rattle.line_words.proofs.Laws.Numbers.{number_small}
 use Rattle.arrivals_text.specs.Counts.{flow_part, count_part, is_new, put_count, put_name, counts_of, arrivals_of}
-use Rattle.arrivals_text.specs.Inner.{taken_of}
+use Rattle.arrivals_text.specs.Inner.{arrival_of}
 
 -- What the reading of a number tells.
-abbrev Number : List ℕ → ℕ → Bool → ℕ → Type 0
-Number word most g v = (g ≡ is_number word most) × (v ≡ cond (is_number word most) (value_of word) 0)
+abbrev Number : List ℕ → ℕ → Option ℕ → Type 0
+Number word most o = o ≡ cond (is_number word most) (Some (value_of word)) None
 
-module _ (word : List ℕ) (most : ℕ) (g : Bool) (v : ℕ) (read : Number word most g v) where
-  number_is : not g ≡ false → is_number word most ≡ true
-  number_is n = sym read.0 ∙ not-false g n
-
-  number_value : not g ≡ false → v ≡ value_of word
-  number_value n = read.1 ∙ rw (number_is n)
-
-  pub number_most : not g ≡ false → v ≤ most
-  number_most n = omega (arith, number_value n, number_small word most (number_is n))
-
--- The parts of a word in which the first `=` stands at index r.
-module _ (word : List ℕ) (r : ℕ) (w : Reaches (is 61) word 0 r) where
-  flow_part_lem : flow_part word ≡ take (r - 0) (drop 0 word)
-  unfolding flow_part
-  flow_part_lem = before_reached (is 61) word 0 r w (omega arith)
-
-  count_from : count_part word ≡ drop (r + 1) word
-  unfolding count_part
-  count_from =
-      let long : length (take (r - 0) (drop 0 word)) ≡ r = length-take (r - 0) word ∙ omega (arith, w.within) in
-      rw (flow_part_lem, long)
-
-  count_part_lem : count_part word ≡ take (length word - (r + 1)) (drop (r + 1) word)
-  count_part_lem = count_from ∙ sym (take_all (length word - (r + 1)) (drop (r + 1) word) (rw (length-drop (r + 1) word) (omega arith)))
-
-  pub flow_read : (g : Bool) (n : ℕ) → Number (take (r - 0) (drop 0 word)) 63 g n → Number (flow_part word) 63 g n
-  flow_read g n read = rw flow_part_lem read
-
-  pub count_read : (g : Bool) (k : ℕ) → Number (take (length word - (r + 1)) (drop (r + 1) word)) 65535 g k → Number (count_part word) 65535 g k
-  count_read g k read = rw count_part_lem read
-
--- What is answered of a word, and what it leaves.
-module _ (word counts : List ℕ) (named : List Bool) where
-  old_word : is_new word named ≡ false → (false, counts, named) ≡ taken_of word counts named
-  unfolding taken_of
-  old_word e = rw e
-
-  -- Without an `=`, nothing is left for K.
-  pub taken_unsigned : (r : ℕ) → Reaches (is 61) word 0 r → r ≡ length word → (false, counts, named) ≡ taken_of word counts named
-  unfolding is_new is_number given
-  taken_unsigned r w e =
-      let behind : count_part word ≡ [] = count_from word r w ∙ drop_of_length-le word {i = r + 1} (omega arith) in
-      old_word (rw (behind, and-false (is_number (flow_part word) 63)))
-
-  module _ (g : Bool) (n : ℕ) (flow : Number (flow_part word) 63 g n) where
-    pub taken_no_flow : not g ≡ true → (false, counts, named) ≡ taken_of word counts named
-    unfolding is_new
-    taken_no_flow e = old_word (rw (sym flow.0 ∙ not-true g e))
-
-    module _ (h : Bool) (k : ℕ) (count : Number (count_part word) 65535 h k) where
-      pub taken_no_count : not h ≡ true → (false, counts, named) ≡ taken_of word counts named
-      unfolding is_new
-      taken_no_count e = old_word (rw (sym count.0 ∙ not-true h e, and-false (is_number (flow_part word) 63)))
-
-      new_word : not g ≡ false → not h ≡ false → is_new word named ≡ not (get_or named n false)
-      unfolding is_new
-      new_word e f = rw (number_is _ _ _ _ flow e, number_is _ _ _ _ count f, number_value _ _ _ _ flow e)
-
-      pub taken_again : not g ≡ false → not h ≡ false → get_or named n false ≡ true → (false, counts, named) ≡ taken_of word counts named
-      taken_again e f t = old_word (new_word e f ∙ ap not t)
-
-      pub taken_first : not g ≡ false → not h ≡ false → get_or named n false ≡ false → (true, set counts n k, set named n true) ≡ taken_of word counts named
-      unfolding taken_of put_count put_name
-      taken_first e f t = rw (new_word e f ∙ ap not t, number_value _ _ _ _ flow e, number_value _ _ _ _ count f)
-
--- What such an answer tells of the word.
-abbrev Taken : Type 0
-Taken = Bool × List ℕ × List Bool
-
-module _ (word counts counts' : List ℕ) (named named' : List Bool) (new : Bool) (taken : (new, counts', named') ≡ taken_of word counts named) where
-  refused_word : not new ≡ true → is_new word named ≡ false
-  unfolding taken_of
-  refused_word n = go (is_new word named) taken
+module _ (word : List ℕ) (most : ℕ) where
+  number_none : Number word most None → is_number word most ≡ false
+  number_none e = go (is_number word most) e
     where
-      go : (b : Bool) → ◌≡◌ {A = Taken} (new, counts', named') (cond b (true, put_count word counts, put_name word named) (false, counts, named)) → b ≡ false
-      go true e = sym (ap (λ (x : Taken). x.0) e) ∙ not-true new n
+      go : (b : Bool) → None ≡ cond b (Some (value_of word)) None → b ≡ false
+      go true e = absurd (none-some _ e)
       go false e = refl
 
-  taken_word : not new ≡ false → (is_new word named ≡ true) × (counts' ≡ put_count word counts) × (named' ≡ put_name word named)
-  unfolding taken_of
-  taken_word n = go (is_new word named) taken
+  number_some : (v : ℕ) → Number word most (Some v) → (is_number word most ≡ true) × (v ≡ value_of word) × (v ≤ most)
+  number_some v e = go (is_number word most) (λ t. number_small word most t) e
     where
-      go : (b : Bool) → ◌≡◌ {A = Taken} (new, counts', named') (cond b (true, put_count word counts, put_name word named) (false, counts, named))
-          → (b ≡ true) × (counts' ≡ put_count word counts) × (named' ≡ put_name word named)
-      go true e = (refl, ap (λ (x : Taken). x.1) e, ap (λ (x : Taken). x.2) e)
-      go false e = absurd (true≢false (sym (not-false new n) ∙ ap (λ (x : Taken). x.0) e))
+      go : (b : Bool) → (b ≡ true → value_of word ≤ most) → Some v ≡ cond b (Some (value_of word)) None → (b ≡ true) × (v ≡ value_of word) × (v ≤ most)
+      go true small e = let same : v ≡ value_of word = same_Some _ _ e in (refl, same, omega (arith, small refl))
+      go false small e = absurd (none-some _ (sym e))
+
+-- What is read of a word.
+module _ (word : List ℕ) where
+  -- Without an `=`, nothing is left for K.
+  pub arrival_unsigned : FoundFrom (is 61) word 0 None → None ≡ arrival_of word
+  unfolding arrival_of flow_part count_part is_number given
+  arrival_unsigned f =
+      let all : length (flow_part word) ≡ length word = ap (λ (w : List ℕ). length w) (found_front (is 61) word None f) ∙ length-take (length word) word ∙ omega arith in
+      let behind : count_part word ≡ [] = drop_of_length-le word {i = length (flow_part word) + 1} (omega arith) in
+      rw (behind, and-false (is_number (flow_part word) 63)) refl
+
+  module _ (r : ℕ) (f : FoundFrom (is 61) word 0 (Some r)) where
+    flow_is : flow_part word ≡ take r word
+    unfolding flow_part
+    flow_is = found_front (is 61) word (Some r) f
+
+    count_is : count_part word ≡ take (length word - (r + 1)) (drop (r + 1) word)
+    unfolding count_part
+    count_is =
+        let long : length (take r word) ≡ r = length-take r word ∙ omega (arith, f.0) in
+        rw (flow_is, long) (sym (take_all (length word - (r + 1)) (drop (r + 1) word) (rw (length-drop (r + 1) word) (omega arith))))
+
+    pub arrival_no_flow : Number (take r word) 63 None → None ≡ arrival_of word
+    unfolding arrival_of
+    arrival_no_flow n = rw (flow_is, number_none _ _ n) refl
+
+    pub count_most : (k : ℕ) → Number (take (length word - (r + 1)) (drop (r + 1) word)) 65535 (Some k) → k ≤ 65535
+    count_most k n = (number_some _ _ k n).2
+
+    pub arrival_no_count : Number (take (length word - (r + 1)) (drop (r + 1) word)) 65535 None → None ≡ arrival_of word
+    unfolding arrival_of
+    arrival_no_count n = rw (count_is, number_none _ _ n, and-false (is_number (flow_part word) 63)) refl
+
+    pub arrival_both : (n k : ℕ) → Number (take r word) 63 (Some n) → Number (take (length word - (r + 1)) (drop (r + 1) word)) 65535 (Some k)
+        → (Some (n, k) ≡ arrival_of word) × (n < 64)
+    unfolding arrival_of
+    arrival_both n k a b =
+        let flow = number_some _ _ n a in
+        let count = number_some _ _ k b in
+        (rw (flow.1, count.1, flow_is, count_is, flow.0, count.0) refl, omega (arith, flow.2))
+
+  -- Whether it is a new one.
+  pub old_word : (named : List Bool) → None ≡ arrival_of word → is_new word named ≡ false
+  unfolding is_new arrival_of
+  old_word named e = go (is_number (flow_part word) 63) (is_number (count_part word) 65535) e
+    where
+      go : (a b : Bool) → ◌≡◌ {A = Option (ℕ × ℕ)} None (cond (a && b) (Some (value_of (flow_part word), value_of (count_part word))) None)
+          → (a && b && not (get_or named (value_of (flow_part word)) false)) ≡ false
+      go true true e = absurd (none-some _ e)
+      go true false e = refl
+      go false b e = refl
+
+  pub new_word : (named : List Bool) (n k : ℕ) → Some (n, k) ≡ arrival_of word
+      → (is_new word named ≡ not (get_or named n false)) × (n ≡ value_of (flow_part word)) × (k ≡ value_of (count_part word))
+  unfolding is_new arrival_of
+  new_word named n k e = go (is_number (flow_part word) 63) (is_number (count_part word) 65535) e
+    where
+      go : (a b : Bool) → ◌≡◌ {A = Option (ℕ × ℕ)} (Some (n, k)) (cond (a && b) (Some (value_of (flow_part word), value_of (count_part word))) None)
+          → ((a && b && not (get_or named (value_of (flow_part word)) false)) ≡ not (get_or named n false)) × (n ≡ value_of (flow_part word)) × (k ≡ value_of (count_part word))
+      go true true e =
+          let parts = some_pair_parts n (value_of (flow_part word)) k (value_of (count_part word)) e in
+          (rw parts.0 refl, parts.0, parts.1)
+      go true false e = absurd (none-some _ (sym e))
+      go false b e = absurd (none-some _ (sym e))
 
 -- What is left of the words of a slot from `at` on gives what all of them give.
 pub record Reading (line : List ℕ) (from at : ℕ) (counts : List ℕ) (named : List Bool) : Type 0 where
@@ -119,29 +112,31 @@ module _ (line : List ℕ) (from : ℕ) where
   reading_start = record { counts_long = refl; names_long = refl; rest = refl }
 
   module _ (at : ℕ) (counts : List ℕ) (named : List Bool) (reading : Reading line from at counts named) where
-    pub reading_end : none (words_of (drop at line)) ≡ true → (true, counts) ≡ arrivals_of (words_of (drop from line))
+    pub reading_end : NextWord line at (length line) (length line) → (true, counts) ≡ arrivals_of (words_of (drop from line))
     unfolding counts_of
-    reading_end e = sym (ap (λ (ws : List (List ℕ)). counts_of ws counts named) (no_words line at e)) ∙ reading.rest
+    reading_end w = sym (ap (λ (ws : List (List ℕ)). counts_of ws counts named) (no_word line at _ _ w refl)) ∙ reading.rest
 
-    module _ (start end : ℕ) (w : NextWord line at start end) (there : none (words_of (drop at line)) ≡ false) (new : Bool) (counts' : List ℕ) (named' : List Bool)
-        (taken : (new, counts', named') ≡ taken_of (take (end - start) (drop start line)) counts named) where
+    module _ (start end : ℕ) (w : (start < end) × NextWord line at start end) where
       first : words_of (drop at line) ≡ take (end - start) (drop start line) ∷ words_of (drop end line)
-      first = first_word line at start end w (λ q. absurd (omega (arith, word_begins line at start end w there)))
+      first = first_word line at start end w.1 (λ q. absurd (omega (arith, w.0)))
 
-      pub reading_stopped : not new ≡ true → (false, replicate 64 0) ≡ arrivals_of (words_of (drop from line))
+      stopped : is_new (take (end - start) (drop start line)) named ≡ false → (false, replicate 64 0) ≡ arrivals_of (words_of (drop from line))
       unfolding counts_of
-      reading_stopped n = sym (rw (first, refused_word _ _ _ _ _ _ taken n)) ∙ reading.rest
+      stopped n = sym (rw (first, n)) ∙ reading.rest
 
-      pub reading_more : not new ≡ false → Reading line from end counts' named'
-      unfolding counts_of put_count put_name
-      reading_more n = go (taken_word _ _ _ _ _ _ taken n)
-        where
-          word : List ℕ
-          word = take (end - start) (drop start line)
+      pub reading_stopped : None ≡ arrival_of (take (end - start) (drop start line)) → (false, replicate 64 0) ≡ arrivals_of (words_of (drop from line))
+      reading_stopped e = stopped (old_word _ named e)
 
-          go : (is_new word named ≡ true) × (counts' ≡ put_count word counts) × (named' ≡ put_name word named) → Reading line from end counts' named'
-          go (t, c, m) = record {
-            counts_long = rw c (length-set counts _ _ ∙ reading.counts_long);
-            names_long = rw m (length-set named _ _ ∙ reading.names_long);
-            rest = rw (c, m) (sym (rw (first, t)) ∙ reading.rest);
-          }
+      module _ (n k : ℕ) (e : ◌≡◌ {A = Option (ℕ × ℕ)} (Some (n, k)) (arrival_of (take (end - start) (drop start line)))) where
+        pub reading_again : get_or named n false ≡ true → (false, replicate 64 0) ≡ arrivals_of (words_of (drop from line))
+        reading_again t = stopped ((new_word _ named n k e).0 ∙ ap not t)
+
+        pub reading_more : get_or named n false ≡ false → Reading line from end (set counts n k) (set named n true)
+        unfolding counts_of put_count put_name
+        reading_more t =
+            let new = new_word _ named n k e in
+            record {
+              counts_long = length-set counts n k ∙ reading.counts_long;
+              names_long = length-set named n true ∙ reading.names_long;
+              rest = rw (new.1, new.2) (sym (rw (first, new.0 ∙ ap not t)) ∙ reading.rest);
+            }

@@ -4,8 +4,8 @@ use lib.ListN.{length}
 use Rattle.arrivals_text.proofs.Laws.Words.{Reading}
 use Rattle.arrivals_text.proofs.read_arrivals.Given as goal
 
-abbrev pub invariant-loop-named : goal.invariant-loop-named
-invariant-loop-named l = Reading l.line l.from l.at l.counts l.named
+abbrev pub invariant-loop-word : goal.invariant-loop-word
+invariant-loop-word l = Reading l.line l.from l.at l.counts l.named
 
-abbrev pub decreases-loop-named : goal.decreases-loop-named
-decreases-loop-named l = length l.line - l.at
+abbrev pub decreases-loop-word : goal.decreases-loop-word
+decreases-loop-word l = length l.line - l.at

@@ -1,19 +1,10 @@
--- Right because each operand is the next of the words, and the second ends the line.
-use mathlib.Core.Bool.{not}
-use mathlib.Core.Path.{ap}
-use Rattle.request_text.proofs.Laws.Operands.{said_last, said_then, sender_malformed, sender_asked}
+-- Right because each operand is the next of the words, and the last ends the line.
+use native.Mathlib.Omega.{arith}
+use Rattle.request_text.proofs.Laws.Operands.{sender_malformed, sender_asked}
 use Rattle.request_text.proofs.sender_line.Goals as goal
 
-pub returns-then-not-complete : goal.returns-then-not-complete
-returns-then-not-complete c =
-    sender_malformed _ _ _
-    (said_then _ _ _ _ _ c.next_operand-parent.ensures.0 _ _ _ _
-    (said_last _ _ _ _ _ c.next_operand-slot.ensures.0 _ c.complete.ensures))
-    (ap not c.if-not-complete.true)
+pub returns-in_default : goal.returns-in_default
+returns-in_default c = sender_malformed _ _ c.in_default.ensures.0
 
 pub returns : goal.returns
-returns c =
-    sender_asked _ _ _ _
-    (said_then _ _ _ _ _ c.next_operand-parent.ensures.0 _ _ _ _
-    (said_last _ _ _ _ _ c.next_operand-slot.ensures.0 _ c.complete.ensures))
-    (ap not c.if-not-complete.false)
+returns c = let said = c.in-Ok.ensures.1 in sender_asked _ _ _ c.in-Ok.ensures.0 (said 0 (omega arith)).0 (said 1 (omega arith)).0
