@@ -13,7 +13,7 @@ use Rattle.std.proofs.lemmas.Grind.{common_steps}
 use Rattle.std.specs.List.{AllWithin, HoldsAt}
 use Rattle.lists.specs.Lists.{smallest, largest}
 use Rattle.lists.specs.Search.{some_below, some_of}
-use Rattle.lists.proofs.Laws.Search.{some_when, below_when, past_when, first_is, first_none}
+use Rattle.lists.proofs.Laws.Search.{some_when, some_is, none_is, below_when, past_when, first_is, first_none}
 use Rattle.slot_rule.specs.Rule.{period, base}
 use Rattle.slot_rule.specs.Assign.{bad_gap, first_bad}
 use Rattle.slot_rule.proofs.Laws.Bases.{smallest_within, smallest_met, largest_above}
@@ -38,6 +38,13 @@ base_some f gaps two some few b one e = rw (base_asked f gaps two some few, ← 
 
 pub base_nothing : (f : ℕ) (gaps : List ℕ) → 2 ≤ f → 1 ≤ length gaps → length gaps ≤ 63 → 0 ≡ base f gaps → None ≡ some_of (base_or_none f gaps)
 base_nothing f gaps two some few e = rw (base_asked f gaps two some few, ← e)
+
+-- What an answer says of the base.
+pub base_is : (f : ℕ) (gaps : List ℕ) (b : ℕ) → 2 ≤ f → 1 ≤ length gaps → length gaps ≤ 63 → Some b ≡ some_of (base_or_none f gaps) → (b ≡ base f gaps) × (1 ≤ base f gaps)
+base_is f gaps b two some few e = rw (base_asked f gaps two some few) at (some_is _ b e)
+
+pub nothing_is : (f : ℕ) (gaps : List ℕ) → 2 ≤ f → 1 ≤ length gaps → length gaps ≤ 63 → None ≡ some_of (base_or_none f gaps) → base f gaps ≡ 0
+nothing_is f gaps two some few e = rw (base_asked f gaps two some few) at (none_is _ e)
 
 -- The first gap of which the test says that it is bad.
 pub bad_is : (gaps : List ℕ) (r : Option ℕ) (Yes No : ℕ → Type 0)
@@ -73,21 +80,19 @@ module _ (xs : List ℕ) (n : ℕ) (at : ℕ → Option ℕ) (long : n ≡ lengt
   met : (m : ℕ) → Meets m → (k : ℕ) × (k < length xs) × (get_or xs k 0 ≡ m)
   met m (k, l, e) = (k, omega arith, rw (each k l) at e)
 
-  none_smallest : n ≡ 0 → 0 ≡ smallest xs
-  unfolding smallest
-  none_smallest e = let z : xs ≡ [] = nil_when xs (omega arith) in rw z
-
   none_largest : n ≡ 0 → 0 ≡ largest xs
   unfolding largest
   none_largest e = let z : xs ≡ [] = nil_when xs (omega arith) in rw z
 
   pub smallest_is : (r : Option ℕ) → MatchOption r (n ≡ 0) (λ m. Meets m × ((k : ℕ) → IfSome (at k) (λ x. is_lt (nat_cmp x m) ≡ false)))
-      → unwrap_or r 0 ≡ smallest xs
-  smallest_is None e = none_smallest e
+      → MatchOption r (length xs ≡ 0) (λ m. (1 ≤ length xs) × (m ≡ smallest xs))
+  smallest_is None e = omega arith
   smallest_is (Some m) (w, low) =
       let here = met m w in
-      let least = smallest_met xs (omega arith) in
-      omega (arith, smallest_within xs here.0 here.1, here.2, at_least m (get_or xs least.0 0) (rw (each least.0 (omega arith)) at (low least.0)), least.2)
+      let least = smallest_met xs (omega arith) in (
+        omega arith,
+        omega (arith, smallest_within xs here.0 here.1, here.2, at_least m (get_or xs least.0 0) (rw (each least.0 (omega arith)) at (low least.0)), least.2),
+      )
 
   pub largest_is : (r : Option ℕ) → MatchOption r (n ≡ 0) (λ m. Meets m × ((k : ℕ) → IfSome (at k) (λ x. is_gt (nat_cmp x m) ≡ false)))
       → unwrap_or r 0 ≡ largest xs
@@ -95,3 +100,8 @@ module _ (xs : List ℕ) (n : ℕ) (at : ℕ → Option ℕ) (long : n ≡ lengt
   largest_is (Some m) (w, high) =
       let here = met m w in
       omega (arith, largest_above xs here.0 here.1, here.2, largest_within xs m (λ k l. at_most m (get_or xs k 0) (rw (each k (omega arith)) at (high k))))
+
+pub smallest_or : (xs : List ℕ) (r : Option ℕ) → MatchOption r (length xs ≡ 0) (λ m. (1 ≤ length xs) × (m ≡ smallest xs)) → unwrap_or r 0 ≡ smallest xs
+unfolding smallest
+smallest_or xs None e = let z : xs ≡ [] = nil_when xs e in rw z
+smallest_or xs (Some m) w = w.1

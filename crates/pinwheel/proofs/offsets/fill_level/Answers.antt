@@ -1,64 +1,41 @@
-use Prim.Native.Nat.{◌<◌}
+use mathlib.Core.Path.{◌∙◌}
 use native.Mathlib.Omega.{arith}
-use Rattle.pinwheel.proofs.Laws.Turns.{assigning_start, assigning_pass, assigning_place, assigning_found, assigning_turn, assigning_end}
+use Rattle.std.proofs.lemmas.List.{map-set}
+use Rattle.pinwheel.proofs.Laws.Turns.{assigning_pass, assigning_place, assigning_found, assigning_turn, assigning_end, dealt_room, front_free, front_positive}
 use Rattle.pinwheel.proofs.offsets.fill_level.Goals as goal
-use Rattle.pinwheel.proofs.offsets.fill_level.Goals.{else-periods-i, then-periods-i}
-
-pub loop-i-init : goal.loop-i-init
-loop-i-init c = assigning_start _ _ _ _ _ _ _ c.requires.0 c.requires.3
+use Rattle.pinwheel.proofs.offsets.fill_level.Goals.{else-own-period, then-own-period}
 
 pub free_offset-offset-requires : goal.free_offset-offset-requires
 free_offset-offset-requires c =
-    let place : c.loop-i.n < 63 = let pre = c.requires in
-    assigning_place _ _ _ _ _ _ _ _ _ c.loop-i.invariant pre.2 pre.1 c.loop-i-test.true c.if-periods-i.true in
-    (omega (arith, place), c.loop-i.invariant.ready.positive)
+    let pre = c.requires in
+    let sofar = c.loop-i.invariant in
+    let place = assigning_place _ _ _ _ _ _ _ _ _ sofar pre.2 pre.1 c.loop-i-test.true c.if-own-period.true in
+    front_positive _ _ (dealt_room _ _ sofar.ready.steps_long place) sofar.ready.positive
 
-pub offset_bounds-steps-n : goal.offset_bounds-steps-n
-offset_bounds-steps-n c =
-    let place : c.loop-i.n < 63 = let pre = c.requires in
-    assigning_place _ _ _ _ _ _ _ _ _ c.loop-i.invariant pre.2 pre.1 c.loop-i-test.true c.if-periods-i.true in
-    omega (arith, place)
+pub bounds-turns-turns : goal.bounds-turns-turns
+bounds-turns-turns c =
+    let pre = c.requires in
+    assigning_place _ _ _ _ _ _ _ _ _ c.loop-i.invariant pre.2 pre.1 c.loop-i-test.true c.if-own-period.true
 
-pub bounds-steps-n : goal.bounds-steps-n
-bounds-steps-n c =
-    let place : c.loop-i.n < 63 = let pre = c.requires in
-    assigning_place _ _ _ _ _ _ _ _ _ c.loop-i.invariant pre.2 pre.1 c.loop-i-test.true c.if-periods-i.true in
-    place
-
-pub offset_bounds-places-n : goal.offset_bounds-places-n
-offset_bounds-places-n c =
-    let place : c.loop-i.n < 63 = let pre = c.requires in
-    assigning_place _ _ _ _ _ _ _ _ _ c.loop-i.invariant pre.2 pre.1 c.loop-i-test.true c.if-periods-i.true in
-    omega (arith, place)
-
-pub bounds-places-n : goal.bounds-places-n
-bounds-places-n c =
-    let place : c.loop-i.n < 63 = let pre = c.requires in
-    assigning_place _ _ _ _ _ _ _ _ _ c.loop-i.invariant pre.2 pre.1 c.loop-i-test.true c.if-periods-i.true in
-    place
-
-pub overflow_add-n : goal.overflow_add-n
-overflow_add-n c =
-    let place : c.loop-i.n < 63 = let pre = c.requires in
-    assigning_place _ _ _ _ _ _ _ _ _ c.loop-i.invariant pre.2 pre.1 c.loop-i-test.true c.if-periods-i.true in
-    omega (arith, place)
-
-pub overflow_add-from : goal.overflow_add-from
-overflow_add-from c =
+pub overflow_add-turns-then-own-period : goal.overflow_add-turns-then-own-period
+overflow_add-turns-then-own-period c =
     let sofar = c.loop-i.invariant in
     let pre = c.requires in
-    let turn = c.loop-i-test.true in
-    let found = assigning_found _ _ _ _ _ _ _ _ _ sofar pre.2 pre.1 turn c.if-periods-i.true _ c.free_offset-offset.ensures in
+    let place = assigning_place _ _ _ _ _ _ _ _ _ sofar pre.2 pre.1 c.loop-i-test.true c.if-own-period.true in
+    let few = dealt_room _ _ sofar.ready.steps_long place in
+    let found = assigning_found _ _ _ _ _ _ _ _ _ sofar pre.2 pre.1 c.loop-i-test.true c.if-own-period.true _ (c.free_offset-offset.ensures ∙ front_free _ _ few _ _) in
     omega arith
 
 pub loop-i-preserved : goal.loop-i-preserved
 loop-i-preserved c =
     let sofar = c.loop-i.invariant in
     let pre = c.requires in
-    let turn = c.loop-i-test.true in
-    elim c.if-periods-i.branch [
-      | then-periods-i w ↦ rw (w.offsets-is, w.steps-is, w.places-is, w.n-is, w.from-is) (assigning_turn _ _ _ _ _ _ _ _ _ sofar pre.2 pre.1 turn w.if-periods-i.true _ w.free_offset-offset.ensures)
-      | else-periods-i w ↦ rw (w.offsets-is, w.steps-is, w.places-is, w.n-is, w.from-is) (assigning_pass _ _ _ _ _ _ _ _ _ sofar turn w.if-periods-i.false)
+    elim c.if-own-period.branch [
+      | then-own-period w ↦
+          let place = assigning_place _ _ _ _ _ _ _ _ _ sofar pre.2 pre.1 c.loop-i-test.true w.if-own-period.true in
+          let few = dealt_room _ _ sofar.ready.steps_long place in
+          rw (w.offsets-is, w.turns-is) (simp map-set (assigning_turn _ _ _ _ _ _ _ _ _ sofar pre.2 pre.1 c.loop-i-test.true w.if-own-period.true _ (w.free_offset-offset.ensures ∙ front_free _ _ few _ _)))
+      | else-own-period w ↦ rw (w.offsets-is, w.turns-is) (assigning_pass _ _ _ _ _ _ _ _ _ sofar c.loop-i-test.true w.if-own-period.false)
     ]
 
 pub returns : goal.returns

@@ -1,41 +1,41 @@
-use Prim.Native.Nat.{◌-◌}
 use mathlib.Core.Path.{◌≡◌, refl, sym, ◌∙◌, ap}
 use mathlib.Core.Bool.{not}
-use borrow.Author.Tests.{eq-eqb, ne_eqb}
+use Prim.Native.Nat.{◌-◌}
+use lib.ListN.{length}
 use native.Mathlib.Omega.{arith}
-use Rattle.slot_rule.specs.Rule.{sends}
 use Rattle.pinwheel.specs.Inner.{some_sends}
+use Rattle.pinwheel.proofs.Laws.Turns.{dealt_some, dealt_sends, dealt_silent}
 use Rattle.lists.proofs.Laws.Search.{first_hit, first_miss, first_end, any_hit, any_miss, any_end}
 use Rattle.pinwheel.proofs.offsets.free_offset.Goals as goal
 
 pub earlier-init : goal.earlier-init
 unfolding some_sends
 earlier-init c =
-    let n = c.args.n in
-    let all : n - 0 ≡ n = omega arith in
-    record { same = refl; below = c.if-candidate-p.false; answer = c.search.invariant; upto = omega arith; none = rw all }
+    let all : length c.args.dealt.now - 0 ≡ length c.args.dealt.now = omega arith in
+    record { same = refl; below = c.if-candidate-period.false; answer = c.search.invariant; none = rw all }
+
+pub nonzero_rem-candidate : goal.nonzero_rem-candidate
+nonzero_rem-candidate c = dealt_some c.args.dealt.now _ c.earlier-test.true (c.requires _ c.earlier-test.true)
 
 pub search-preserved : goal.search-preserved
-unfolding sends
 search-preserved c =
     let try = c.earlier.invariant in
-    let hit = any_hit _ _ _ c.earlier-test.true (eq-eqb _ _ (omega arith)) in
+    let hit = any_hit _ _ _ c.earlier-test.true (dealt_sends c.args.dealt.now _ _ c.earlier-test.true c.if-candidate-child.true) in
     try.answer ∙ first_miss _ _ _ try.below (ap not (try.none ∙ hit))
 
 pub earlier-preserved : goal.earlier-preserved
-unfolding sends
 earlier-preserved c =
     let try = c.earlier.invariant in
+    let here = c.earlier-test.true in
     record {
       same = try.same;
       below = try.below;
       answer = try.answer;
-      upto = omega arith;
-      none = try.none ∙ any_miss _ _ _ c.earlier-test.true (ne_eqb _ _ (omega arith));
+      none = try.none ∙ any_miss _ _ _ here (dealt_silent c.args.dealt.now _ _ here c.if-candidate-child.false);
     }
 
-pub returns-then-candidate-p : goal.returns-then-candidate-p
-returns-then-candidate-p c = sym (c.search.invariant ∙ first_end _ _ _ c.if-candidate-p.true)
+pub returns-then-candidate-period : goal.returns-then-candidate-period
+returns-then-candidate-period c = sym (c.search.invariant ∙ first_end _ _ _ c.if-candidate-period.true)
 
 pub returns-after-earlier : goal.returns-after-earlier
 returns-after-earlier c =

@@ -1,13 +1,13 @@
--- Right because no candidate before this one is free, so that the search from here has the answer of the whole, and by `Try` no child before k sends in its slot;
--- p - candidate falls outside, n - k inside.
-use Prim.Native.Nat.{ℕ, ◌≤◌, ◌<◌, ◌-◌}
+-- Right because no candidate before this one is free, so that the search from here has the answer of the whole, and by `Try` no child before this one sends in
+-- its slot; period - candidate falls.
+use Prim.Native.Nat.{ℕ, ◌<◌, ◌-◌}
 use mathlib.Core.Path.{◌≡◌}
 use mathlib.Core.Bool.{Bool, not}
 use mathlib.Core.List.{List}
-use lib.ListN.{get_or}
+use lib.ListN.{length, get_or}
 use Rattle.lists.specs.Search.{first_in, any}
 use Rattle.slot_rule.specs.Rule.{sends}
-use Rattle.pinwheel.specs.Inner.{some_sends}
+use Rattle.pinwheel.specs.Inner.{steps_of, places_of, some_sends}
 use Rattle.pinwheel.proofs.offsets.free_offset.Given as goal
 
 -- Child k of the two lists sends in slot t.
@@ -21,17 +21,15 @@ pub record Try (steps places : List ℕ) (n p from candidate₀ candidate k : �
   pub same : candidate ≡ candidate₀
   pub below : candidate < p
   pub answer : first_in (free steps places n) p from ≡ first_in (free steps places n) p candidate
-  pub upto : k ≤ n
   pub none : some_sends steps places n candidate ≡ any (one steps places candidate) (n - k) k
 
 abbrev pub invariant-earlier : goal.invariant-earlier
-invariant-earlier l = Try l.steps l.places l.n l.p l.from l.initial.candidate l.candidate l.k
-
-abbrev pub decreases-earlier : goal.decreases-earlier
-decreases-earlier l = l.n - l.k
+invariant-earlier l = Try (steps_of l.dealt) (places_of l.dealt) (length l.dealt) l.period l.from l.initial.candidate l.candidate l.child-index
 
 abbrev pub invariant-search : goal.invariant-search
-invariant-search l = first_in (free l.steps l.places l.n) l.p l.from ≡ first_in (free l.steps l.places l.n) l.p l.candidate
+invariant-search l =
+    first_in (free (steps_of l.dealt) (places_of l.dealt) (length l.dealt)) l.period l.from
+    ≡ first_in (free (steps_of l.dealt) (places_of l.dealt) (length l.dealt)) l.period l.candidate
 
 abbrev pub decreases-search : goal.decreases-search
-decreases-search l = l.p - l.candidate
+decreases-search l = l.period - l.candidate

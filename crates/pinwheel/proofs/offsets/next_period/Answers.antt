@@ -1,22 +1,13 @@
-use borrow.Author.Rules.{rules}
-use mathlib.Core.Path.{◌≡◌}
-use lib.ListN.{length}
-use native.Mathlib.Omega.{arith}
-use Rattle.pinwheel.proofs.Laws.Turns.{next_none, next_skip, next_take}
+use Rattle.std.proofs.Common.{arith}
+use Rattle.std.proofs.lemmas.Grind.{common_steps}
+use Rattle.std.specs.Prelude.{filter}
+use lib.Dec.{ltb}
+use Rattle.bases.proofs.Laws.{smallest_is}
+use Rattle.pinwheel.proofs.Laws.Turns.{next_smallest, next_is}
 use Rattle.pinwheel.proofs.offsets.next_period.Goals as goal
-use Rattle.pinwheel.proofs.offsets.next_period.Goals.{else-p-q, then-p-q}
-
-pub loop-i-init : goal.loop-i-init
-loop-i-init c = (search rules, next_none _ _)
-
-pub loop-i-preserved : goal.loop-i-preserved
-loop-i-preserved c =
-    let sofar = c.loop-i.invariant.1 in (
-      search rules,
-      (elim c.if-p-q.branch [ then-p-q w ↦ rw w.next-is (next_take _ _ _ _ _ w.if-p-q.true sofar w.nearer-next.ensures) | else-p-q w ↦ rw w.next-is (next_skip _ _ _ _ w.if-p-q.false sofar) ]),
-    )
 
 pub returns : goal.returns
 returns c =
-    let all : c.loop-i.i ≡ length c.args.periods.now = omega arith in
-    rw (← all) c.loop-i.invariant.1
+    let run = c.min.ensures.runs in
+    let found = smallest_is (filter (ltb c.args.p) c.args.periods.now) run.0.len run.0.at (grind (arith, common_steps)) (λ k l. grind (arith, common_steps)) _ run.3 in
+    (_, next_smallest c.args.p c.args.periods.now, next_is c.args.p c.args.periods.now _ found)

@@ -1,12 +1,7 @@
--- Right because `Filled` holds: each gap before i has its period beside it; length gaps - i falls.
-use Prim.Native.Nat.{◌-◌}
-use lib.ListN.{length}
+-- Right because `Filled` holds: each gap before i has its period beside it.
 use Rattle.slot_rule.specs.Rule.{period}
 use Rattle.lists.proofs.Laws.Lists.{Filled}
 use Rattle.pinwheel.proofs.periods.fill.Given as goal
 
 abbrev pub invariant-loop-i : goal.invariant-loop-i
 invariant-loop-i l = Filled 0 0 (period l.factor l.base) l.gaps l.i l.periods
-
-abbrev pub decreases-loop-i : goal.decreases-loop-i
-decreases-loop-i l = length l.gaps - l.i
