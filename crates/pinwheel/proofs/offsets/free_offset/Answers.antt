@@ -4,7 +4,7 @@ use Prim.Native.Nat.{◌-◌}
 use lib.ListN.{length}
 use native.Mathlib.Omega.{arith}
 use Rattle.pinwheel.specs.Inner.{some_sends}
-use Rattle.pinwheel.proofs.Laws.Turns.{dealt_some, dealt_sends, dealt_silent}
+use Rattle.pinwheel.proofs.Laws.Turns.{dealt_sends, dealt_silent}
 use Rattle.lists.proofs.Laws.Search.{first_hit, first_miss, first_end, any_hit, any_miss, any_end}
 use Rattle.pinwheel.proofs.offsets.free_offset.Goals as goal
 
@@ -13,9 +13,6 @@ unfolding some_sends
 earlier-init c =
     let all : length c.args.dealt.now - 0 ≡ length c.args.dealt.now = omega arith in
     record { same = refl; below = c.if-candidate-period.false; answer = c.search.invariant; none = rw all }
-
-pub nonzero_rem-candidate : goal.nonzero_rem-candidate
-nonzero_rem-candidate c = dealt_some c.args.dealt.now _ c.earlier-test.true (c.requires _ c.earlier-test.true)
 
 pub search-preserved : goal.search-preserved
 search-preserved c =
