@@ -1,12 +1,14 @@
 -- One law for each answer of the functions that judge a flow and a number, and that the loads of a site give its own checks.
-use Prim.Native.Nat.{ℕ, ◌≤◌, ◌<◌}
-use mathlib.Core.Path.{◌≡◌, sym}
-use mathlib.Core.Bool.{Bool, true, false, not}
+use Prim.Native.Nat.{ℕ, ◌≤◌}
+use mathlib.Core.Path.{◌≡◌}
+use mathlib.Core.Bool.{Bool, false, not}
 use lib.Dec.{ltb}
 use lib.ListN.{length}
-use borrow.Author.Tests.{lt-ltb, le-ltb, eq-eqb, ne_eqb, ltb-false}
-use Rattle.rulings.specs.Outcome.{accepted, refused}
-use Rattle.rulings.proofs.Laws.Outcomes.{past, checked_pass, checked_fail}
+use borrow.Author.Tests.{le-ltb, eq-eqb, ltb-false}
+use Rattle.rulings.specs.Outcome.{accepted}
+use Rattle.lists.proofs.Laws.Search.{some_is, none_is}
+use Rattle.rulings.proofs.Laws.Faults.{number_some}
+use Rattle.rulings.proofs.Laws.Outcomes.{past, checked_pass}
 use Rattle.site.specs.declared.Site.{Site}
 use Rattle.site.specs.declared.Flow.{Flow}
 use Rattle.site.specs.Sites.{live}
@@ -19,25 +21,9 @@ use Rattle.flow_checks.specs.Inner.{flow_ruling_with, flow_ruling_by}
 
 -- A flow that is to come, check by check: `limit`, `t`, `found` and `sum` are what the callees answer.
 module _ (link : ℕ) (s : Site) (f : Flow) (limit : ℕ) (limits : limit ≡ flow_limits s.links 0 f) where
-  pub flow_limit : (limit ≡ 0 → ⊥) → refused limit 0 ≡ flow_ruling_with link s f
-  unfolding flow_ruling_with
-  flow_limit n = rw (← limits) (sym (checked_fail limit _ n))
-
   module _ (within : limit ≡ 0) (t : Bool) (lives : t ≡ live s f.number) where
-    pub flow_live : t ≡ true → refused 15 f.number ≡ flow_ruling_with link s f
-    unfolding flow_ruling_with
-    flow_live e = rw (← limits, checked_pass limit _ within, ← lives, e)
-
     module _ (free : t ≡ false) (found : ℕ) (is : found ≡ link) where
-      pub flow_unfit : (found ≡ 0 → ⊥) → refused 17 found ≡ flow_ruling_with link s f
-      unfolding flow_ruling_with
-      flow_unfit n = rw (← limits, checked_pass limit _ within, ← lives, free, ← is, ne_eqb _ _ n)
-
       module _ (room : found ≡ 0) (sum : ℕ) (sums : sum ≡ along (periods_judged s) (route s.parents f.entry)) where
-        pub flow_late : f.deadline < sum → refused 18 f.number ≡ flow_ruling_with link s f
-        unfolding flow_ruling_with
-        flow_late l = rw (← limits, checked_pass limit _ within, ← lives, free, ← is, eq-eqb _ _ room, ← sums, lt-ltb _ _ l)
-
         pub flow_passes : sum ≤ f.deadline → accepted tt ≡ flow_ruling_with link s f
         unfolding flow_ruling_with
         flow_passes l = rw (← limits, checked_pass limit _ within, ← lives, free, ← is, eq-eqb _ _ room, ← sums, le-ltb _ _ l)
@@ -53,15 +39,10 @@ module _ (s : Site) (n : ℕ) where
   unfolding number_ruling
   number_few e = ltb-false 63 n (past (ltb 63 n) 5 0 _ e).0
 
-  pub number_large : 63 < n → refused 5 0 ≡ number_ruling s n
-  unfolding number_ruling
-  number_large l = rw (lt-ltb _ _ l)
-
   module _ (few : n ≤ 63) (t : Bool) (lives : t ≡ live s n) where
-    pub number_free : not t ≡ true → refused 16 n ≡ number_ruling s n
-    unfolding number_ruling
-    number_free e = rw (le-ltb _ _ few, ← lives, e)
-
     pub number_passes : not t ≡ false → accepted tt ≡ number_ruling s n
     unfolding number_ruling
     number_passes e = rw (le-ltb _ _ few, ← lives, e)
+
+-- What the checks need of a fault, of a link that is found and of none.
+pub ruleset judging = (number_some, some_is, none_is)
