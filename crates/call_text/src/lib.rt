@@ -11,18 +11,19 @@ use request_text::{Call, Line, read_request};
 use slices::same;
 
 // What a line asks for, and the arrivals of a slot by flow number: 64 zeros for anything else.
-#[derive(Clone, Copy)]
+#[derive(Clone, Copy, PartialEq, Eq, Debug)]
 pub struct Asked {
     pub line: Line,
     pub arrivals: [u16; 64],
 }
 
+#[tactic(auto, unfolding(crate::specs::Lines::alone))]
 fn without_arrivals(line: Line) -> Asked
     ensures { result ≡ alone line }
 {
     Asked {
         line,
-        arrivals: [0u16; 64],
+        arrivals: [0; 64],
     }
 }
 
@@ -30,27 +31,21 @@ fn without_arrivals(line: Line) -> Asked
 fn remark(line: &[u8]) -> bool
     ensures { result ≡ eqb (get_or line.now 0 0) 35 }
 {
-    if line.len() == 0 {
-        return false;
-    }
-    line[0] == b'#'
+    matches!(line, [b'#', ..])
 }
 
 fn slot_line(line: &[u8], from: usize) -> Asked
     ensures { result ≡ slot_line (words_of (drop from line.now)) }
 {
-    let slot = next_operand(line, from, 4294967295);
-    if !slot.given {
+    let Some(slot) = next_operand(line, from, u32::MAX) else {
         return without_arrivals(Line::Malformed);
-    }
-    let read = read_arrivals(line, slot.next);
-    if !read.given {
+    };
+    let Some(arrivals) = read_arrivals(line, slot.next) else {
         return without_arrivals(Line::Malformed);
-    }
-    let counts = read.counts;
+    };
     Asked {
         line: Line::Makes(Call::Slot(slot.value)),
-        arrivals: counts,
+        arrivals,
     }
 }
 
@@ -61,15 +56,12 @@ pub fn read_line(line: &[u8]) -> Asked
     if remark(line) {
         return without_arrivals(Line::PassedOver);
     }
-    let word = next_word(line, 0);
-    let start = word.start;
-    let end = word.end;
-    if start == end {
+    let Some(word) = next_word(line, 0) else {
         return without_arrivals(Line::PassedOver);
-    }
-    let name = &line[start..end];
+    };
+    let name = &line[word.start..word.end];
     if same(name, b"slot") {
-        return slot_line(line, end);
+        return slot_line(line, word.end);
     }
-    without_arrivals(read_request(name, line, end))
+    without_arrivals(read_request(name, line, word.end))
 }
