@@ -1,11 +1,8 @@
--- Right because the entries below the index are put; what is left of them falls.
-use Prim.Native.Nat.{◌-◌, ◌≤◌}
+-- Right because the entries below the index are put.
+use Rattle.lists.specs.Lists.{joined}
+use Rattle.text.specs.Page.{Adds}
 use Rattle.testlib_changes.specs.Changed.{entry_text}
-use Rattle.report_lines.proofs.Laws.Lines.{Printed}
 use Rattle.testlib_changes.proofs.put_entries.Given as goal
 
 abbrev pub invariant-loop-index : goal.invariant-loop-index
-invariant-loop-index l = (l.index ≤ 64) × Printed (entry_text l.before l.after l.field) (l.at, l.initial.out) l.index (l.taken, l.out)
-
-abbrev pub decreases-loop-index : goal.decreases-loop-index
-decreases-loop-index l = 64 - l.index
+invariant-loop-index l = Adds l.initial.page l.page (joined (entry_text l.before l.after l.field) l.index 0)

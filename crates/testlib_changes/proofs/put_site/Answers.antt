@@ -1,9 +1,0 @@
--- Right because the fields are put behind their name.
-use Rattle.text.proofs.Laws.Put.{puts_one, puts_then}
-use Rattle.testlib_changes.specs.Changed.{site_text}
-use Rattle.testlib_changes.proofs.put_site.Goals as goal
-
-pub returns : goal.returns
-unfolding site_text
-returns c =
-    puts_then _ _ _ _ _ (puts_one _ _ _ c.put-named.ensures) c.put_fields.ensures
