@@ -62,7 +62,7 @@ fn link_at(bytes: &[u8], at: usize) -> Link
 }
 
 // The command at index `at`, which is not END, as a LINK behind so many others.
-#[tactic(auto, using(format::proofs::Laws::Reading::number_some), unfolding(format::specs::Reading::fault_of, format::specs::Commands::schedule_size, crate::specs::Read::link_fault, crate::specs::Read::out_of_order))]
+#[tactic(auto, using(rulings::proofs::Laws::Faults::number_some), unfolding(format::specs::Reading::fault_of, format::specs::Commands::schedule_size, crate::specs::Read::link_fault, crate::specs::Read::out_of_order))]
 fn next_link(bytes: &[u8], at: usize, links: u8) -> Result<Link, Refusal>
     requires { at < length bytes.now }
     ensures judged { (s : Schedule) → s.links ≡ links → outcome result ≡ next_link bytes.now at s }

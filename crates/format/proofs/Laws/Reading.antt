@@ -12,35 +12,11 @@ use borrow.Author.Tests.{lt-ltb, le-ltb, eq-eqb, ne_eqb, ltb-false, eqb-true, eq
 use native.Mathlib.Decide.{ℕ_discrete}
 use native.Mathlib.Omega.{arith}
 use Rattle.rulings.specs.declared.Fault.{Fault}
-use Rattle.rulings.specs.declared.Fault.TheVariants.{WrongLength, CutOff, UnknownCommand, NodeBehindFlow, OutsideLimits, OutOfPlace, TooManyNodes, TooDeep, BytesBehindEnd, Crowded, AboveCapacity, AboveDeadline, NoSite, NumberLive, NumberNotLive, NoRoom, TooLate, TooManyPackets, StrayArrivals, LinkOutOfOrder, SlotsOutside}
 use Rattle.rulings.specs.Outcome.{Outcome, accepted, refused, number_of}
 use Rattle.rulings.proofs.Laws.Choices.{cond_same, passed}
+use Rattle.rulings.proofs.Laws.Faults.{number_some}
 use Rattle.lists.proofs.Laws.Search.{lt_or_le}
 use Rattle.format.specs.Reading.{Kind, fault_of, ended, read_from}
-
--- A fault has a number.
-pub number_some : (f : Fault) → number_of f ≡ 0 → ⊥
-number_some WrongLength e = omega arith
-number_some CutOff e = omega arith
-number_some UnknownCommand e = omega arith
-number_some NodeBehindFlow e = omega arith
-number_some OutsideLimits e = omega arith
-number_some OutOfPlace e = omega arith
-number_some TooManyNodes e = omega arith
-number_some TooDeep e = omega arith
-number_some BytesBehindEnd e = omega arith
-number_some Crowded e = omega arith
-number_some AboveCapacity e = omega arith
-number_some AboveDeadline e = omega arith
-number_some NoSite e = omega arith
-number_some NumberLive e = omega arith
-number_some NumberNotLive e = omega arith
-number_some NoRoom e = omega arith
-number_some TooLate e = omega arith
-number_some TooManyPackets e = omega arith
-number_some StrayArrivals e = omega arith
-number_some LinkOutOfOrder e = omega arith
-number_some SlotsOutside e = omega arith
 
 -- As many steps as there are bytes are enough from every index on.
 unfoldable pub read_on : {A B : Type 0} → Kind A B → List ℕ → ℕ → A → Outcome B
