@@ -168,6 +168,8 @@ call_kept r p n = p
 
 pub unnamed_law : Unit
 unnamed_law = tt
+
+pub ruleset kept_rules = (each_kept, both_kept)
 ";
 
 const SHARED: &str = "\
@@ -188,7 +190,8 @@ const CLAIMS: &str = "\
     cells`
   - Promise or law: `each_kept`, `both_kept`, `one_kept`, `call_kept`
   - Refused edit: `kept_by_nobody`, the edits `kept_..`; prints ` equal` and `FF`
-- **`desk::admit`, `plain`; `desk::none`, `is_given`**
+- **`desk::none`, `is_given`**
+- **`desk::admit`, `plain`**
 ";
 
 const STATEMENTS: &str = "

@@ -36,10 +36,11 @@ fn indentation(text: &str) -> usize {
     text.len() - text.trim_start().len()
 }
 
-/// What a line at the left edge of a section begins.
+/// What a line at the left edge of a section begins. A set of laws, which proofs name at once, states nothing itself.
 enum Begin<'a> {
     Section,
     Import,
+    Set,
     Declared(&'a str, Kind, bool),
     Clause,
 }
@@ -55,6 +56,7 @@ fn begin_of(text: &str) -> Result<Begin<'_>, String> {
     Ok(match (first, second) {
         ("module", _) => Begin::Section,
         ("mod" | "use", _) => Begin::Import,
+        ("ruleset", _) => Begin::Set,
         ("record", name) => Begin::Declared(name, Kind::Record, is_public),
         ("data", name) => Begin::Declared(name, Kind::Data, is_public),
         (name, ":") if is_unfolded => Begin::Declared(name, Kind::Unfolded, is_public),
@@ -96,7 +98,7 @@ fn gather<'a>(
                     last.clauses.extend(chunk);
                 }
             }
-            Begin::Import => {}
+            Begin::Import | Begin::Set => {}
         }
     }
     Ok(())
