@@ -14,14 +14,10 @@ use borrow.Author.Tests.{eq-eqb, ne_eqb}
 use native.Mathlib.Decide.{ℕ_discrete}
 use native.Mathlib.Numerals.{add-one}
 use native.Mathlib.Omega.{arith}
+use Rattle.std.proofs.lemmas.Bool.Decides.{nat_tests}
 use Rattle.format.specs.Commands.{size_of, schedule_size}
 use Rattle.format.specs.Bytes.{number_at, bytes_of}
 use Rattle.format.specs.Words.{Bytes}
-
-pub bytes_long : (w v : ℕ) → length (bytes_of w v) ≡ w
-unfolding bytes_of
-bytes_long zero v = refl
-bytes_long (suc w) v = ap suc (bytes_long w (v / 256))
 
 -- A number of w bytes is read back from its bytes, wherever they stand.
 pub number_bytes : (w v : ℕ) (bytes rest : List ℕ) (at : ℕ) → v < 256 ^ w → drop at bytes ≡ bytes_of w v ++ rest → number_at w bytes at ≡ v
@@ -79,11 +75,11 @@ flow_some = omega arith
 module _ (tag : ℕ) where
   pub size_node : tag ≡ 1 → 6 ≡ size_of tag
   unfolding size_of
-  size_node e = simp (eq-eqb _ _ e)
+  size_node e = simp e
 
   pub size_flow : tag ≡ 2 → 6 ≡ size_of tag
   unfolding size_of
-  size_flow e = let n : tag ≡ 1 → ⊥ = omega arith in simp (ne_eqb _ _ n, eq-eqb _ _ e)
+  size_flow e = simp e
 
   pub size_none : (tag ≡ 1 → ⊥) → (tag ≡ 2 → ⊥) → 0 ≡ size_of tag
   unfolding size_of
@@ -91,7 +87,7 @@ module _ (tag : ℕ) where
 
   pub size_link : tag ≡ 17 → 6 ≡ schedule_size tag
   unfolding schedule_size
-  size_link e = simp (eq-eqb _ _ e)
+  size_link e = simp e
 
   pub size_no_link : (tag ≡ 17 → ⊥) → 0 ≡ schedule_size tag
   unfolding schedule_size
@@ -99,41 +95,19 @@ module _ (tag : ℕ) where
 
   -- A byte that is a command of a schedule is that of a LINK.
   pub size_kind : (schedule_size tag ≡ 0 → ⊥) → tag ≡ 17
-  size_kind n = elim (ℕ_discrete tag 17) [ yes e ↦ e | no m ↦ absurd (n (sym (size_no_link m))) ]
-
-  -- Where m is the size of a command that is known.
-  pub size_is_link : (m : ℕ) → m ≡ schedule_size tag → (m ≡ 0 → ⊥) → m ≡ 6
-  size_is_link m is some = is ∙ sym (size_link (size_kind (λ z. some (is ∙ z))))
-
-  pub link_most : schedule_size tag ≤ 6
   unfolding schedule_size
-  link_most = go (eqb tag 17)
-    where
-      go : (t : Bool) → cond t 6 0 ≤ 6
-      go true = omega arith
-      go false = omega arith
+  size_kind n = grind (arith, nat_tests)
 
   -- No command has more than six bytes.
+  pub link_most : schedule_size tag ≤ 6
+  unfolding schedule_size
+  link_most = grind (arith, nat_tests)
+
   pub size_most : size_of tag ≤ 6
   unfolding size_of
-  size_most = go (eqb tag 1) (eqb tag 2)
-    where
-      go : (a b : Bool) → cond a 6 (cond b 6 0) ≤ 6
-      go true b = omega arith
-      go false true = omega arith
-      go false false = omega arith
+  size_most = grind (arith, nat_tests)
 
   -- A byte that is a command of a plan is that of a NODE or of a FLOW.
   pub size_kinds : (size_of tag ≡ 0 → ⊥) → (tag ≡ 1) ⊎ (tag ≡ 2)
-  size_kinds n =
-      elim (ℕ_discrete tag 1) [
-        | yes e ↦ inl e
-        | no m ↦ elim (ℕ_discrete tag 2) [ yes f ↦ inr f | no k ↦ absurd (n (sym (size_none m k))) ]
-      ]
-
-  -- Where m is the size: that of a NODE, or that of a FLOW where it is no NODE but known.
-  pub size_is_node : (m : ℕ) → m ≡ size_of tag → tag ≡ 1 → m ≡ 6
-  size_is_node m is e = is ∙ sym (size_node e)
-
-  pub size_is_flow : (m : ℕ) → m ≡ size_of tag → (m ≡ 0 → ⊥) → (tag ≡ 1 → ⊥) → m ≡ 6
-  size_is_flow m is some other = is ∙ elim (size_kinds (λ z. some (is ∙ z))) [ inl e ↦ absurd (other e) | inr e ↦ sym (size_flow e) ]
+  unfolding size_of
+  size_kinds n = grind (arith, nat_tests)

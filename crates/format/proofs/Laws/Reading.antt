@@ -40,20 +40,11 @@ module _ {A B : Type 0} (k : Kind A B) (bytes : List ℕ) where
         let some : k.size (get_or bytes at 0) ≡ 0 → ⊥ = eqb-false _ _ tag.0 in
         (omega arith, ltb-false _ _ whole.0, whole.1)
 
-    -- The checks in turn. m stands for the size of the command.
-    module _ (m : ℕ) (is : m ≡ k.size (get_or bytes at 0)) where
-      pub fault_unknown : m ≡ 0 → 3 ≡ fault_of k bytes at a
-      unfolding fault_of
-      fault_unknown e = rw (← is, eq-eqb _ _ e)
-
-      module _ (known : m ≡ 0 → ⊥) where
-        pub fault_cut : length bytes < at + m → 2 ≡ fault_of k bytes at a
-        unfolding fault_of
-        fault_cut l = rw (← is, ne_eqb _ _ known, lt-ltb (length bytes) (at + m) l)
-
-        pub fault_later : at + m ≤ length bytes → (r : ℕ) → r ≡ k.later bytes at a → r ≡ fault_of k bytes at a
-        unfolding fault_of
-        fault_later l r q = rw (← is, ne_eqb _ _ known, le-ltb (length bytes) (at + m) l) q
+    -- Its own checks, where it is known and lies within the bytes. m stands for its size.
+    pub fault_later : (m : ℕ) → m ≡ k.size (get_or bytes at 0) → (m ≡ 0 → ⊥) → at + m ≤ length bytes → (r : ℕ) → r ≡ k.later bytes at a
+        → r ≡ fault_of k bytes at a
+    unfolding fault_of
+    fault_later m is known l r q = rw (← is, ne_eqb _ _ known, le-ltb (length bytes) (at + m) l) q
 
   -- Steps beyond the number of bytes left change nothing.
   read_fuel : (f g at : ℕ) (a : A) → length bytes ≤ at + f → length bytes ≤ at + g → read_from k f bytes at a ≡ read_from k g bytes at a
