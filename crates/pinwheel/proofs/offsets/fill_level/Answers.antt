@@ -1,16 +1,9 @@
 use mathlib.Core.Path.{◌∙◌}
 use native.Mathlib.Omega.{arith}
 use Rattle.std.proofs.lemmas.List.{map-set}
-use Rattle.pinwheel.proofs.Laws.Turns.{assigning_pass, assigning_place, assigning_found, assigning_turn, assigning_end, dealt_room, front_free, front_positive}
+use Rattle.pinwheel.proofs.Laws.Turns.{assigning_pass, assigning_place, assigning_found, assigning_turn, assigning_end, dealt_room, front_free}
 use Rattle.pinwheel.proofs.offsets.fill_level.Goals as goal
 use Rattle.pinwheel.proofs.offsets.fill_level.Goals.{else-own-period, then-own-period}
-
-pub free_offset-offset-requires : goal.free_offset-offset-requires
-free_offset-offset-requires c =
-    let pre = c.requires in
-    let sofar = c.loop-i.invariant in
-    let place = assigning_place _ _ _ _ _ _ _ _ _ sofar pre.2 pre.1 c.loop-i-test.true c.if-own-period.true in
-    front_positive _ _ (dealt_room _ _ sofar.ready.steps_long place) sofar.ready.positive
 
 pub bounds-turns-turns : goal.bounds-turns-turns
 bounds-turns-turns c =

@@ -1,10 +1,11 @@
 use mathlib.Core.Path.{◌≡◌, refl, sym, ◌∙◌, ap}
-use mathlib.Core.Bool.{not}
+use mathlib.Core.Bool.{true, false, not}
 use Prim.Native.Nat.{◌-◌}
 use lib.ListN.{length}
 use native.Mathlib.Omega.{arith}
-use Rattle.pinwheel.specs.Inner.{some_sends}
-use Rattle.pinwheel.proofs.Laws.Turns.{dealt_sends, dealt_silent}
+use Rattle.pinwheel.specs.Inner.{steps_of, places_of, some_sends}
+use Rattle.pinwheel.proofs.offsets.free_offset.Invariants.{one}
+use Rattle.pinwheel.proofs.Laws.Turns.{dealt_sends}
 use Rattle.lists.proofs.Laws.Search.{first_hit, first_miss, first_end, any_hit, any_miss, any_end}
 use Rattle.pinwheel.proofs.offsets.free_offset.Goals as goal
 
@@ -17,18 +18,20 @@ earlier-init c =
 pub search-preserved : goal.search-preserved
 search-preserved c =
     let try = c.earlier.invariant in
-    let hit = any_hit _ _ _ c.earlier-test.true (dealt_sends c.args.dealt.now _ _ c.earlier-test.true c.if-candidate-child.true) in
-    try.answer ∙ first_miss _ _ _ try.below (ap not (try.none ∙ hit))
+    let sent : one (steps_of c.args.dealt.now) (places_of c.args.dealt.now) c.earlier.candidate c.earlier.child-index ≡ true =
+        dealt_sends _ _ _ c.earlier-test.true ∙ sym (rw c.from.ensures at c.sends_in.ensures) ∙ c.if-sends_in.true in
+    try.answer ∙ first_miss _ _ _ try.below (ap not (try.none ∙ any_hit _ _ _ c.earlier-test.true sent))
 
 pub earlier-preserved : goal.earlier-preserved
 earlier-preserved c =
     let try = c.earlier.invariant in
-    let here = c.earlier-test.true in
+    let silent : one (steps_of c.args.dealt.now) (places_of c.args.dealt.now) c.earlier.candidate c.earlier.child-index ≡ false =
+        dealt_sends _ _ _ c.earlier-test.true ∙ sym (rw c.from.ensures at c.sends_in.ensures) ∙ c.if-sends_in.false in
     record {
       same = try.same;
       below = try.below;
       answer = try.answer;
-      none = try.none ∙ any_miss _ _ _ here (dealt_silent c.args.dealt.now _ _ here c.if-candidate-child.false);
+      none = try.none ∙ any_miss _ _ _ c.earlier-test.true silent;
     }
 
 pub returns-then-candidate-period : goal.returns-then-candidate-period
