@@ -1,11 +1,12 @@
 -- Where the answers to anything asked are those of the slot rule.
-use Prim.Native.Nat.{ℕ, suc, ◌≤◌, ◌<◌}
+use Prim.Native.Nat.{ℕ, suc, ◌/◌, ◌^◌, ◌≤◌, ◌<◌}
 use mathlib.Core.Path.{◌≡◌, refl}
 use mathlib.Core.Bool.{◌||◌, true, false}
 use mathlib.Core.List.{List, [], ◌∷◌}
 use lib.Dec.{eqb, ltb}
 use lib.ListN.{length, get_or}
 use borrow.Author.Tests.{le-ltb, ne_eqb}
+use native.Mathlib.Nat.{mul_comm, div-eq_of_eq-mul_left}
 use native.Mathlib.Omega.{arith}
 use Rattle.std.specs.Prelude.{Option, Some, None, MatchOption, IfSome, IsSomeAnd, unwrap_or}
 use Rattle.std.proofs.Common.{nat_cmp, is_lt, is_gt}
@@ -14,7 +15,7 @@ use Rattle.std.specs.List.{AllWithin, HoldsAt}
 use Rattle.lists.specs.Lists.{smallest, largest}
 use Rattle.lists.specs.Search.{some_below, some_of}
 use Rattle.lists.proofs.Laws.Search.{some_when, some_is, none_is, below_when, past_when, first_is, first_none}
-use Rattle.slot_rule.specs.Rule.{period, base}
+use Rattle.slot_rule.specs.Rule.{exponent, period, base}
 use Rattle.slot_rule.specs.Assign.{bad_gap, first_bad}
 use Rattle.slot_rule.proofs.Laws.Bases.{smallest_within, smallest_met, largest_above}
 use Rattle.slot_rule.proofs.Laws.Periods.{period_least}
@@ -31,6 +32,11 @@ base_asked f gaps two some few = let n : length gaps ≡ 0 → ⊥ = omega arith
 -- A period is never 0.
 pub period_some : (f b g : ℕ) → 2 ≤ f → 1 ≤ b → b ≤ g → Some (period f b g) ≡ some_of (period_or_none f b g)
 period_some f b g two one l = rw (period_asked f b g two one l) (some_when _ (omega (arith, period_least f two b g)))
+
+-- Divided by the base, a period is the power of the factor.
+pub whole_of : (f b g : ℕ) → 1 ≤ b → period f b g / b ≡ f ^ exponent f b g
+unfolding period
+whole_of f b g one = div-eq_of_eq-mul_left (omega arith) (mul_comm b (f ^ exponent f b g))
 
 -- A base from 1 up, or none.
 pub base_some : (f : ℕ) (gaps : List ℕ) → 2 ≤ f → 1 ≤ length gaps → length gaps ≤ 63 → (b : ℕ) → 1 ≤ b → b ≡ base f gaps → Some b ≡ some_of (base_or_none f gaps)

@@ -1,7 +1,7 @@
 // Rules 1 to 4 of the slot rule: the period that a base gives a gap, and the largest base that fits. What other crates call takes any numbers and lists.
 #![tactic(auto)]
 
-ghost use Rattle.std.specs.Prelude.{◌≡◌, ◌^◌, ◌≤◌, length};
+ghost use Rattle.std.specs.Prelude.{◌≡◌, ◌^◌, ◌/◌, ◌≤◌, length};
 ghost use Rattle.lists.specs.Search.{some_below, some_of};
 ghost use Rattle.lists.specs.Lists.{smallest, largest};
 ghost use Rattle.slot_rule.specs.Rule.{exponent, period, fits, base};
@@ -16,26 +16,27 @@ pub fn first_bad(gaps: &[u16]) -> Option<usize>
     gaps.iter().position(|gap| *gap == 0 || 1024 < *gap)
 }
 
-// A gap's period, which is the base times this power of the factor.
+// What a base gives a gap: the period, which is the base times a power of the factor, and `whole` divided by that power.
 #[derive(Clone, Copy, PartialEq, Eq, Debug)]
 struct Rise {
     period: u16,
-    power: u16,
+    share: u16,
 }
 
-// The base times the factor, as often as it stays within the gap. No product exceeds the gap.
-fn rise_of(gap: u16, base: u16, factor: u16) -> Rise
+// The base times the factor, as often as it stays within the gap, and `whole` divided by the factor each time. No product exceeds the gap. With the factor 2
+// each division is a shift, which costs less than one by the period.
+fn rise_of(gap: u16, base: u16, factor: u16, whole: u16) -> Rise
     requires { (2 ≤ factor) × (1 ≤ base) × (base ≤ gap) }
-    ensures { (result.period ≡ period factor base gap) × (result.power ≡ factor ^ exponent factor base gap) }
+    ensures { (result.period ≡ period factor base gap) × (result.share ≡ whole / factor ^ exponent factor base gap) }
 {
     let top = gap / factor;
     let mut period = base;
-    let mut power = 1;
+    let mut share = whole;
     while period <= top {
         period *= factor;
-        power *= factor;
+        share /= factor;
     }
-    Rise { period, power }
+    Rise { period, share }
 }
 
 // Rule 2 for one gap.
@@ -46,7 +47,7 @@ pub fn period_of(gap: u16, base: u16, factor: u16) -> Option<u16>
     if factor < 2 || base == 0 || gap < base {
         return None;
     }
-    Some(rise_of(gap, base, factor).period)
+    Some(rise_of(gap, base, factor, 1).period)
 }
 
 // The smallest of the gaps, which rule 1 bounds the bases by, and the largest.
@@ -62,18 +63,18 @@ fn largest(gaps: &[u16]) -> u16
     gaps.iter().copied().max().unwrap_or(0)
 }
 
-// Rule 3 in whole numbers: a child adds f^(J-j) to the sum, where J is the largest gap's j, and the limit is that gap's period.
+// Rule 3 in whole numbers: the limit is the largest gap's period, b × f^J, and a child's share of f^J is f^(J-j).
 fn fits(gaps: &[u16], most: u16, base: u16, factor: u16) -> bool
     requires { AllowedBase factor base gaps.now × (most ≡ largest gaps.now) × (1 ≤ length gaps.now) × (length gaps.now ≤ 63) }
     ensures { result ≡ fits factor base gaps.now }
 {
-    let top = rise_of(most, base, factor);
+    let limit = rise_of(most, base, factor, 1).period;
+    let whole = limit / base;
     let mut sum: u32 = 0;
     for gap in gaps {
-        let rise = rise_of(*gap, base, factor);
-        sum += u32::from(top.power / rise.power);
+        sum += u32::from(rise_of(*gap, base, factor, whole).share);
     }
-    sum <= u32::from(top.period)
+    sum <= u32::from(limit)
 }
 
 // Rule 4 for the gaps of one parent's children. A base at most the smallest gap / factor gives the periods of a larger one, so only those above are tried.

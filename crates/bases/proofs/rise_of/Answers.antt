@@ -1,28 +1,25 @@
 use borrow.Author.Rules.{rules}
-use Prim.Native.Nat.{ℕ, ◌*◌}
+use Prim.Native.Nat.{ℕ, ◌/◌, ◌^◌}
 use mathlib.Core.Path.{sym, ◌∙◌, ap}
-use native.Mathlib.Nat.{pow-zero, pow-suc, mul-le-mul_right}
+use native.Mathlib.Nat.{pow-zero, pow-suc, div-one, div-div-eq-div-mul}
 use native.Mathlib.Omega.{arith}
-use Rattle.slot_rule.proofs.Laws.Periods.{grown_start, grown_turn, grown_more, grown_end, grown_power}
+use Rattle.slot_rule.proofs.Laws.Periods.{grown_start, grown_turn, grown_more, grown_end}
 use Rattle.bases.proofs.rise_of.Goals as goal
 
 pub loop-period-init : goal.loop-period-init
-loop-period-init c = grown_start _ _ _ _ _ (search rules) (search rules) (sym (pow-zero _))
+loop-period-init c = grown_start _ _ _ _ _ (search rules) (search rules) (rw (pow-zero, div-one))
 
 pub overflow_mul-period : goal.overflow_mul-period
 overflow_mul-period c = omega (arith, (grown_turn _ _ _ _ c.requires.0 _ _ c.loop-period.invariant (omega arith)).1)
-
-pub overflow_mul-power : goal.overflow_mul-power
-overflow_mul-power c =
-    let w = grown_turn _ _ _ _ c.requires.0 _ _ c.loop-period.invariant (omega arith) in
-    omega (arith, w.1, mul-le-mul_right c.args.factor (grown_power _ _ _ _ _ c.requires.1 c.loop-period.invariant))
 
 pub loop-period-smaller : goal.loop-period-smaller
 loop-period-smaller c = let w = grown_turn _ _ _ _ c.requires.0 _ _ c.loop-period.invariant (omega arith) in omega (arith, w.0, w.1)
 
 pub loop-period-preserved : goal.loop-period-preserved
-loop-period-preserved c = let f = c.args.factor in
-    grown_more _ _ _ _ c.requires.0 _ _ c.loop-period.invariant _ (omega arith) (λ e q. ap (λ (n : ℕ). n * f) q ∙ sym (pow-suc f e))
+loop-period-preserved c = let start = c.args in
+    grown_more _ _ _ _ c.requires.0 _ _ c.loop-period.invariant _ (omega arith)
+    (λ e q. ap (λ (n : ℕ). n / start.factor) q ∙ div-div-eq-div-mul start.whole (start.factor ^ e) start.factor
+    ∙ ap (λ (n : ℕ). start.whole / n) (sym (pow-suc start.factor e)))
 
 pub returns : goal.returns
 returns c =
