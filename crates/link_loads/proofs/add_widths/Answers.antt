@@ -10,7 +10,6 @@ loop-node-preserved c =
     let here = c.loop-node.invariant in
     let higher : c.parent_of-parent.result < c.loop-node.node = omega arith in
     record {
-      few = omega (arith, here.few);
       widths = cc (carried_up c.args.site.now.periods c.args.site.now.parents c.loop-node.loads c.args.rate _ _ c.parent_of-parent.ensures higher);
       ahead = λ i l. get_or-set_other c.loop-node.loads (c.loop-node.node - 1) i _ 0 (λ e. omega arith) ∙ here.ahead i (omega arith);
       periods = omega (arith, along_up c.args.site.now.periods c.args.site.now.parents _ _ c.parent_of-parent.ensures higher);

@@ -10,7 +10,6 @@ use Rattle.link_loads.proofs.add_widths.Given as goal
 
 abbrev pub invariant-loop-node : goal.invariant-loop-node
 invariant-loop-node l = record {
-  few : l.node ≤ l.entry;
   widths : carried l.site.periods l.rate (route l.site.parents l.node) l.loads
       ≡ carried l.site.periods l.rate (route l.site.parents l.entry) l.initial.loads;
   ahead : (i : ℕ) → i < l.node → get_or l.loads i 0 ≡ get_or l.initial.loads i 0;
