@@ -14,11 +14,17 @@ use native.Mathlib.Nat.{eq-or-lt_of_le, suc-add, zero-add, add-zero}
 use native.Mathlib.Numerals.{add-one}
 use native.Mathlib.Omega.{arith}
 use Rattle.slot_rule.specs.Rule.{base, periods_of, offsets_of}
-use Rattle.rulings.specs.Outcome.{Outcome, accepted, refused}
+use Rattle.std.specs.Prelude.{Option, None, Some, Result, Ok, Err}
+use Rattle.std.specs.Option.{is_some}
+use Rattle.std.specs.Result.{result_ok}
+use Rattle.rulings.specs.declared.Refusal.{Refusal}
+use Rattle.rulings.specs.Outcome.{Outcome, accepted, refused, outcome}
+use Rattle.lists.specs.Search.{some_of}
+use Rattle.slot_rule.proofs.Laws.{accepted_when}
 use Rattle.slot_rule.specs.Assign.{assigned}
 use Rattle.slot_rule.specs.Words.{InLimits}
 use Rattle.slot_rule.proofs.Laws.Checks.{good_assigned}
-use Rattle.lists.proofs.Laws.Search.{lt_or_le, first_is, first_skip, first_end}
+use Rattle.lists.proofs.Laws.Search.{lt_or_le, first_is, first_skip, first_end, some_when, none_is, below_when, past_when}
 use Rattle.site.specs.declared.Site.{Site}
 use Rattle.site.specs.Sites.{used}
 use Rattle.schedule.specs.Schedule.{kept, gaps_from, gaps_under, rank, assigned_under, base_of, base_under, crowded, first_crowded, entry_assigned, offsets_assigned}
@@ -247,24 +253,31 @@ module _ (s : Site) (p n : ℕ) (gaps zs ys : List ℕ) (g : GapsOf (gaps_under 
   unfolding assigned_under
   same = rw (z, y, take_replicate n 63 0 g.few, g.are, ← gaps_number (gaps_under s p) n gaps g)
 
-  pub assigned_to : (answer : Outcome ℕ) (os ps : List ℕ) → (answer, os, ps) ≡ assigned 2 (take n gaps) (take n zs) (take n ys)
-      → (b : ℕ) → b ≡ base_of answer
+  pub assigned_to : (answer : Result ℕ Refusal) (os ps : List ℕ) → (outcome answer, os, ps) ≡ assigned 2 (take n gaps) (take n zs) (take n ys)
+      → (b : Option ℕ) → b ≡ result_ok answer
       → length os ≡ length (take n zs) → length ps ≡ length (take n ys)
       → AssignedTo s p b n (os ++ drop n zs) (ps ++ drop n ys)
-  unfolding base_under
+  unfolding base_under base_of assigned_under
   assigned_to answer os ps e b q o k =
       record {
         offsets_long = length_front zs os n o ∙ rw z;
         periods_long = length_front ys ps n k ∙ rw y;
         number = gaps_number (gaps_under s p) n gaps g;
         few = g.few;
-        base = q ∙ ap (λ (r : Outcome ℕ × List ℕ × List ℕ). base_of r.0) told;
+        base = q ∙ answered answer (ap (λ (r : Outcome ℕ × List ℕ × List ℕ). r.0) told);
         offsets = take_at os (drop n zs) n (o ∙ zeros_front zs n z g.few) ∙ ap (λ (r : Outcome ℕ × List ℕ × List ℕ). r.1) told;
         periods = take_at ps (drop n ys) n (k ∙ zeros_front ys n y g.few) ∙ ap (λ (r : Outcome ℕ × List ℕ × List ℕ). r.2) told;
       }
     where
-      told : (answer, os, ps) ≡ assigned_under s p
+      told : (outcome answer, os, ps) ≡ assigned_under s p
       told = e ∙ same
+
+      -- The base of an accepted answer is at least 1.
+      answered : (a : Result ℕ Refusal) → outcome a ≡ (assigned_under s p).0 → result_ok a ≡ some_of (base_under s p)
+      answered (Ok x) h =
+          let fit = ((accepted_when 2 (omega arith) (gaps_under s p) _ _ x).0 (sym h)).1 in
+          rw (← h) (some_when x fit.0)
+      answered (Err r) h = rw (← h)
 
 -- The entry of a link, in a list that is assigned under every parent.
 module _ (s : Site) (lists : ℕ → List ℕ) where
@@ -361,12 +374,13 @@ module _ (s : Site) (n : ℕ) (first next : List ℕ) where
   }
 
   module _ (p : ℕ) (os ps : List ℕ) (d : Assigning s n first next p os ps) where
-    pub assigning_end : n < p → SlotsOf s p os ps
+    pub assigning_end : n < p → SlotsOf s None os ps
     unfolding first_crowded offsets_assigned periods_assigned
     assigning_end l = record {
-      crowded = sym (first_skip _ (used s.links + 1) p (omega arith) d.passed ∙ first_end (crowded s) (used s.links + 1) p (omega arith));
-      offsets = λ m. entered_end _ _ p os d.offsets m (omega arith);
-      periods = λ m. entered_end _ _ p ps d.periods m (omega arith);
+      crowded = past_when (used s.links + 1) _
+          (omega (arith, first_skip _ (used s.links + 1) p (omega arith) d.passed ∙ first_end (crowded s) (used s.links + 1) p (omega arith)));
+      offsets = λ m. entered_end _ _ p os d.offsets (omega (arith, d.all)) (omega (arith, d.all, d.most));
+      periods = λ m. entered_end _ _ p ps d.periods (omega (arith, d.all)) (omega (arith, d.all, d.most));
     }
 
     module _ (l : p ≤ n) where
@@ -391,27 +405,35 @@ module _ (s : Site) (n : ℕ) (first next : List ℕ) where
           }
 
       -- With what the slot rule assigns under p.
-      module _ (b m : ℕ) (vs ws : List ℕ) (t : AssignedTo s p b m vs ws) where
-        pub assigning_crowded : get_or first p 0 < n → b ≡ 0 → SlotsOf s p os ps
+      module _ (b : Option ℕ) (m : ℕ) (vs ws : List ℕ) (t : AssignedTo s p b m vs ws) where
+        pub assigning_crowded : get_or first p 0 < n → is_some b ≡ false → SlotsOf s (Some p) os ps
         unfolding first_crowded crowded
         assigning_crowded some z =
             let k : length (gaps_under s p) ≡ 0 → ⊥ = omega (arith, (child_gap s p (get_or first p 0) (rw d.all at some) (head.child some)).0) in
+            let none : base_under s p ≡ 0 = none_is _ (sym (nothing b z) ∙ t.base) in
+            let here : first_crowded s ≡ p = first_is (crowded s) (used s.links + 1) 0 p (omega arith) (omega (arith, d.all)) (simp (ne_eqb _ _ k, eq-eqb _ _ none)) d.passed in
             record {
-              crowded = sym (first_is (crowded s) (used s.links + 1) 0 p (omega arith) (omega arith)
-                  (simp (ne_eqb _ _ k, eq-eqb _ _ (sym t.base ∙ z))) d.passed);
-              offsets = λ m. absurd (omega arith);
-              periods = λ m. absurd (omega arith);
+              crowded = rw here (below_when (used s.links + 1) p (omega (arith, d.all)));
+              offsets = λ m. absurd (omega (arith, d.all, here));
+              periods = λ m. absurd (omega (arith, d.all, here));
             }
+          where
+            nothing : (b : Option ℕ) → is_some b ≡ false → b ≡ None
+            nothing None z = refl
+            nothing (Some x) z = cc
 
-        fit : (b ≡ 0 → ⊥) → crowded s p ≡ false
+        fit : is_some b ≡ true → crowded s p ≡ false
         unfolding crowded
         fit f = go (not (eqb (length (gaps_under s p)) 0))
           where
+            some : base_under s p ≡ 0 → ⊥
+            some e = let z : is_some b ≡ false = rw (t.base, e) in cc
+
             go : (x : Bool) → x && eqb (base_under s p) 0 ≡ false
-            go true = ne_eqb _ _ (λ e. f (t.base ∙ e))
+            go true = ne_eqb _ _ some
             go false = refl
 
-        pub assigning_more : (b ≡ 0 → ⊥) → (os' ps' : List ℕ) → Spread s.parents n p vs os os' → Spread s.parents n p ws ps ps'
+        pub assigning_more : is_some b ≡ true → (os' ps' : List ℕ) → Spread s.parents n p vs os os' → Spread s.parents n p ws ps ps'
             → Assigning s n first next (p + 1) os' ps'
         assigning_more fits os' ps' o q = record {
           all = d.all;

@@ -23,5 +23,5 @@ slice_bounds-assign-end-5 c = sym (zeros_front _ _ c.requires.3 c.requires.0)
 pub returns : goal.returns
 returns c =
     let start = c.requires in
-    λ s p wanted. assigned_to s p _ _ _ _ wanted start.2 start.3 _ _ _ c.assign-answer.ensures _
-    c.base_in.ensures c.assign-answer.auto.offsets c.assign-answer.auto.periods
+    λ s p wanted. assigned_to s p _ _ _ _ wanted start.2 start.3 _ _ _ c.assign.ensures _
+    c.ok.ensures.value c.assign.auto.offsets c.assign.auto.periods

@@ -1,6 +1,6 @@
 -- Right because the slot rule is asked for just the gaps of the parent's children.
 use borrow.Author.Rules.{rules}
-use mathlib.Core.Path.{sym}
+use mathlib.Core.Path.{refl, sym}
 use native.Mathlib.Omega.{arith}
 use Rattle.site.specs.Sites.{used}
 use Rattle.schedule.specs.Schedule.{gaps_under}
@@ -20,28 +20,28 @@ gaps_under-n-requires c =
       omega arith,
       chained_rising _ _ _ _ c.chains_of-chains.ensures,
       search rules,
-      rw c.zeros-wanted.ensures,
+      search rules,
     )
 
 pub slice_bounds-assign_to-end : goal.slice_bounds-assign_to-end
 slice_bounds-assign_to-end c =
-    let gathered : GapsOf (gaps_under c.args.site c.args.parent) c.gaps_under-n.result c.gaps_under-n.new.wanted = gathered_all c.args.site _ c.args.parent _ _ c.link_count-links.ensures
+    let gathered : GapsOf (gaps_under c.args.site.now c.args.parent) c.gaps_under-n.result c.gaps_under-n.new.wanted = gathered_all c.args.site.now _ c.args.parent _ _ c.link_count-links.ensures
     (c.gaps_under-n.ensures _ _ (chained_chain _ _ _ _ c.chains_of-chains.ensures _ (search rules))) in
     sym gathered.long
 
 pub assign_to-requires : goal.assign_to-requires
 assign_to-requires c =
-    let gathered : GapsOf (gaps_under c.args.site c.args.parent) c.gaps_under-n.result c.gaps_under-n.new.wanted = gathered_all c.args.site _ c.args.parent _ _ c.link_count-links.ensures
+    let gathered : GapsOf (gaps_under c.args.site.now c.args.parent) c.gaps_under-n.result c.gaps_under-n.new.wanted = gathered_all c.args.site.now _ c.args.parent _ _ c.link_count-links.ensures
     (c.gaps_under-n.ensures _ _ (chained_chain _ _ _ _ c.chains_of-chains.ensures _ (search rules))) in
     let g = gathered in (
       g.few,
       g.long,
-      c.zeros-offsets.ensures,
-      c.zeros-periods.ensures,
+      refl,
+      refl,
     )
 
 pub returns : goal.returns
 returns c =
-    let gathered : GapsOf (gaps_under c.args.site c.args.parent) c.gaps_under-n.result c.gaps_under-n.new.wanted = gathered_all c.args.site _ c.args.parent _ _ c.link_count-links.ensures
+    let gathered : GapsOf (gaps_under c.args.site.now c.args.parent) c.gaps_under-n.result c.gaps_under-n.new.wanted = gathered_all c.args.site.now _ c.args.parent _ _ c.link_count-links.ensures
     (c.gaps_under-n.ensures _ _ (chained_chain _ _ _ _ c.chains_of-chains.ensures _ (search rules))) in
     (c.assign_to.ensures _ _ gathered).base

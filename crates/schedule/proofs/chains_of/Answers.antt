@@ -10,23 +10,23 @@ loop-i-init c = chained_start _ _ _ _ refl refl
 
 pub overflow_cast-parent : goal.overflow_cast-parent
 overflow_cast-parent c =
-    let byte : get_or c.args.parents.now (c.loop-i.i - 1) 0 < 256 = omega (arith, c.shared_slice_known-1.given (c.loop-i.i - 1)) in
+    let byte : get_or c.args.parents.now (c.loop-i.i - 1) 0 < 256 = omega (arith, c.type_inv.parents (c.loop-i.i - 1)) in
     omega (arith, byte)
 
 pub bounds-chains-parent : goal.bounds-chains-parent
 bounds-chains-parent c =
-    let byte : get_or c.args.parents.now (c.loop-i.i - 1) 0 < 256 = omega (arith, c.shared_slice_known-1.given (c.loop-i.i - 1)) in
+    let byte : get_or c.args.parents.now (c.loop-i.i - 1) 0 < 256 = omega (arith, c.type_inv.parents (c.loop-i.i - 1)) in
     omega (arith, byte)
 
 pub bounds-chains-parent-in-loop-i : goal.bounds-chains-parent-in-loop-i
 bounds-chains-parent-in-loop-i c =
-    let byte : get_or c.args.parents.now (c.loop-i.i - 1) 0 < 256 = omega (arith, c.shared_slice_known-1.given (c.loop-i.i - 1)) in
+    let byte : get_or c.args.parents.now (c.loop-i.i - 1) 0 < 256 = omega (arith, c.type_inv.parents (c.loop-i.i - 1)) in
     omega (arith, byte)
 
 pub loop-i-preserved : goal.loop-i-preserved
 loop-i-preserved c =
-    let byte : get_or c.args.parents.now (c.loop-i.i - 1) 0 < 256 = omega (arith, c.shared_slice_known-1.given (c.loop-i.i - 1)) in
-    chained_more _ _ _ _ _ _ c.loop-i.invariant (omega arith) (omega arith) byte
+    let byte : get_or c.args.parents.now (c.loop-i.i - 1) 0 < 256 = omega (arith, c.type_inv.parents (c.loop-i.i - 1)) in
+    chained_more _ _ _ _ _ _ c.loop-i.invariant (omega (arith, c.loop-i-test.true)) (omega arith) byte
 
 pub returns : goal.returns
 returns c =

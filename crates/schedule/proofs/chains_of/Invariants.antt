@@ -4,6 +4,3 @@ use Rattle.schedule.proofs.chains_of.Given as goal
 
 abbrev pub invariant-loop-i : goal.invariant-loop-i
 invariant-loop-i l = Chained l.parents l.links l.i l.chains.first l.chains.next
-
-abbrev pub decreases-loop-i : goal.decreases-loop-i
-decreases-loop-i l = l.i
