@@ -18,8 +18,7 @@ use Rattle.plan_listing.specs.Listing.{listing_of}
 use Rattle.plan_listing.proofs.Laws.Short.{listing_short}
 use Rattle.line_words.specs.Parts.{lines_of}
 use Rattle.slices.specs.Written.{written}
-use Rattle.typed_plan.specs.declared.Assembled.{Assembled}
-use Rattle.typed_plan.specs.declared.Assembled.TheVariants.{Length, Short}
+use Rattle.typed_plan.specs.Assemble.{Assembled, Length, Short}
 use Rattle.typed_plan.specs.Assemble.{NoPlan, assembling, plan_typed, first_wrong, stored_plan, assembled_of}
 use Rattle.typed_plan.proofs.Laws.Plans.{judged}
 use Rattle.typed_plan.proofs.Laws.Listing.{listing_plan, listing_right}

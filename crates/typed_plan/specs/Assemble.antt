@@ -1,15 +1,28 @@
 -- A typed plan turned into plan bytes.
-use Rattle.std.specs.Prelude.{ℕ, ◌+◌, cond, List, [], ◌∷◌, ◌++◌, ◌⊎◌, ltb, length, drop}
+use Rattle.std.specs.Prelude.{ℕ, ◌+◌, cond, List, [], ◌∷◌, ◌++◌, ◌⊎◌, ltb, length, drop, Result, Ok, Err}
 use Rattle.std.proofs.Common.{inl, inr}
 use Rattle.rulings.specs.Outcome.{Outcome, accepted, refused}
 use Rattle.text.specs.Put.{text_of}
 use Rattle.line_words.specs.Parts.{lines_of}
 use Rattle.plan_writer.specs.Write.{node_command, flow_command}
-use Rattle.typed_line.specs.declared.Typed.{Typed}
-use Rattle.typed_line.specs.declared.Typed.TheVariants.{Nothing, Node, Flow, Bad}
-use Rattle.typed_plan.specs.declared.Assembled.{Assembled}
-use Rattle.typed_plan.specs.declared.Assembled.TheVariants.{Length, BadLine, Short, Long}
-use Rattle.typed_line.specs.Lines.{typed_line}
+use Rattle.typed_line.specs.Lines.{Typed, Nothing, Node, Flow, Bad, command_number, typed_line}
+use Rattle.typed_plan.specs.declared.AssembleError.{AssembleError}
+use Rattle.typed_plan.specs.declared.AssembleError.TheVariants.{WrongLine, NoRoom, TooLong}
+
+-- What a text comes to: the number of bytes stored; the number of a wrong line, its command and the place of its first wrong word; a slice without room; or a
+-- text that is too long.
+pub data Assembled : Type 0 where
+  Length : ℕ → Assembled
+  BadLine : ℕ → ℕ → ℕ → Assembled
+  Short : Assembled
+  Long : Assembled
+
+-- What each answer says of that.
+abbrev pub assembled : Result ℕ AssembleError → Assembled
+assembled (Ok n) = Length n
+assembled (Err (WrongLine line mistake)) = BadLine line (command_number mistake.named) mistake.place
+assembled (Err NoRoom) = Short
+assembled (Err TooLong) = Long
 
 -- A text that has no plan: the number of its first wrong line, its command and the place of its first wrong word; or it is too long to be read. 01 knows
 -- plans as bytes alone, so that neither has a number in its tables.

@@ -5,33 +5,30 @@
 mod plans;
 
 ghost use Rattle.std.specs.Prelude.{◌≡◌};
-ghost use Rattle.typed_plan.specs.Assemble.{assembled_of};
+ghost use Rattle.typed_plan.specs.Assemble.{assembled, assembled_of};
 
 use plans::{check, put_plan};
+use typed_line::Mistake;
 
-// The number of bytes stored; the number of a wrong line, its command and the place of its first wrong word; a slice without room; or a text that is too
-// long.
-#[derive(Clone, Copy)]
-pub enum Assembled {
-    Length(usize),
-    BadLine(usize, u8, u8),
-    Short,
-    Long,
+// Why no plan is stored: the number of a wrong line and what is wrong with it; a slice without room; or a text that is too long.
+#[derive(Clone, Copy, PartialEq, Eq, Debug)]
+pub enum AssembleError {
+    WrongLine { line: usize, mistake: Mistake },
+    NoRoom,
+    TooLong,
 }
 
-// All lines are judged before a byte is stored, so that every answer but a length leaves the slice.
-pub fn assemble(text: &[u8], out: &mut [u8]) -> Assembled
-    ensures { (result, out.new) ≡ assembled_of text.now out.old }
+// The number of bytes stored. All lines are judged before a byte is, so that every error leaves the slice.
+pub fn assemble(text: &[u8], out: &mut [u8]) -> Result<usize, AssembleError>
+    ensures { (assembled result, out.new) ≡ assembled_of text.now out.old }
 {
     if 65535 < text.len() {
-        return Assembled::Long;
+        return Err(AssembleError::TooLong);
     }
-    let checked = check(text);
-    if let Assembled::Length(size) = checked {
-        if out.len() < size {
-            return Assembled::Short;
-        }
-        put_plan(text, out);
+    let size = check(text)?;
+    if out.len() < size {
+        return Err(AssembleError::NoRoom);
     }
-    checked
+    put_plan(text, out);
+    Ok(size)
 }

@@ -29,9 +29,8 @@ use Rattle.line_words.proofs.Laws.Spaced.{unmarked_spaced, words_spaced}
 use Rattle.plan_listing.specs.Listing.{node_text, node_typed, typed_flow, flow_typed, flow_typed_if, site_typed, listing_lines, listing_of}
 use Rattle.report_lines.proofs.Laws.Figures.{flow_at_lem}
 use Rattle.plan.proofs.Laws.Numbers.{read_sound}
-use Rattle.typed_line.specs.declared.Typed.{Typed}
-use Rattle.typed_line.specs.declared.Typed.TheVariants.{Node, Flow}
-use Rattle.typed_plan.specs.declared.Assembled.{Assembled}
+use Rattle.typed_line.specs.Lines.{Typed, Node, Flow}
+use Rattle.typed_plan.specs.Assemble.{Assembled}
 use Rattle.typed_line.specs.Lines.{wrong, command_of, typed_line}
 use Rattle.typed_plan.specs.Assemble.{piece_of, pieces_of, plan_typed, wrong_or, first_wrong}
 use Rattle.typed_line.proofs.Laws.Operands.{node_right, flow_right}

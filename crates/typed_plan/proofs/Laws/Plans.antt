@@ -1,60 +1,30 @@
 -- All lines of a typed plan, read one after the other.
-use Prim.Native.Nat.{ℕ, ◌+◌, ◌-◌, ◌*◌, ◌≤◌, ◌<◌}
+use Prim.Native.Nat.{ℕ, suc, ◌+◌, ◌*◌, ◌≤◌, ◌<◌}
 use mathlib.Core.Path.{◌≡◌, refl, sym, ◌∙◌, ap}
 use mathlib.Core.Bool.{Bool, true, false, cond}
 use mathlib.Core.List.{List, [], ◌∷◌, ◌++◌}
-use mathlib.Core.Logic.{◌⊎◌, inl, inr}
-use lib.ListN.{length, take, drop}
+use lib.Dec.{eqb}
+use lib.ListN.{length, get_or, drop, drop_of_length-le}
+use lib.Seq.{drop-cons}
+use native.Mathlib.Numerals.{add-one}
+use Rattle.std.specs.List.{slice_split, onto_first, enumerate_from}
+use Rattle.std.proofs.lemmas.List.FromFn.{length-enumerate_from, get_or-enumerate_from}
 use borrow.Author.Tests.{lt-ltb, le-ltb}
-use native.Mathlib.Nat.{eq-or-lt_of_le, zero-add}
-use denote.Enum.Declared.{tag_of}
-use types.Run.{OneOf}
+use native.Mathlib.Nat.{zero-add}
 use native.Mathlib.Omega.{arith}
 use Rattle.format.specs.Bytes.{bytes_of}
 use Rattle.slices.specs.Put.{put}
 use Rattle.text.specs.Put.{puts, text_of}
-use Rattle.text.proofs.Laws.Put.{puts_one, puts_then, puts_long, puts_whole, text_append}
-use Rattle.line_words.specs.Parts.{onto, parts, is, lines_of, Reaches}
-use Rattle.line_words.proofs.Laws.Parts.{parts_marked, parts_last}
-use Rattle.typed_line.specs.contracts.Typed.{the_type}
-use Rattle.typed_plan.specs.contracts.Assembled.{the_type as assembled-type}
-use Rattle.typed_line.specs.declared.Typed.{Typed}
-use Rattle.typed_line.specs.declared.Typed.TheVariants.{Nothing, Node, Flow, Bad}
-use Rattle.typed_plan.specs.declared.Assembled.{Assembled}
-use Rattle.typed_plan.specs.declared.Assembled.TheVariants.{Length, BadLine, Short, Long}
-use Rattle.typed_line.specs.Lines.{typed_line}
+use Rattle.text.proofs.Laws.Put.{puts_one, puts_then, puts_whole, text_append}
+use Rattle.line_words.specs.Parts.{onto, parts, is, lines_of}
+use Rattle.typed_line.specs.declared.Command.{Command}
+use Rattle.typed_line.specs.declared.Command.TheVariants.{Node as node, Flow as flow}
+use Rattle.typed_line.specs.Lines.{Typed, Nothing, Node, Flow, Bad, command_said, typed, typed_line}
+use Rattle.std.specs.Prelude.{Option, Some, None, Ok, Err}
+use Rattle.typed_plan.specs.declared.AssembleError.{AssembleError}
+use Rattle.typed_plan.specs.declared.AssembleError.TheVariants.{WrongLine, NoRoom, TooLong}
+use Rattle.typed_plan.specs.Assemble.{Assembled, Length, BadLine, Short, Long, assembled}
 use Rattle.typed_plan.specs.Assemble.{piece_of, pieces_of, plan_typed, wrong_or, first_wrong, stored_plan, assembled_of}
-
-no_three : ◌≡◌ {A = ℕ} 3 0 ⊎ ◌≡◌ {A = ℕ} 3 1 ⊎ ◌≡◌ {A = ℕ} 3 2 → ⊥
-no_three (inl e) = absurd (omega arith)
-no_three (inr (inl e)) = absurd (omega arith)
-no_three (inr (inr e)) = absurd (omega arith)
-
-no_zero : ◌≡◌ {A = ℕ} 0 1 ⊎ ◌≡◌ {A = ℕ} 0 2 ⊎ ◌≡◌ {A = ℕ} 0 3 → ⊥
-no_zero (inl e) = absurd (omega arith)
-no_zero (inr (inl e)) = absurd (omega arith)
-no_zero (inr (inr e)) = absurd (omega arith)
-
--- A line that is not wrong is one of the three others, and what is told that is no length one of the three others.
-pub not_bad : (t : Typed) → ((command place : ℕ) → t ≡ Bad command place → ⊥) → OneOf (0 ∷ 1 ∷ 2 ∷ []) (tag_of the_type t)
-not_bad Nothing never = inl refl
-not_bad (Node a b c) never = inr (inl refl)
-not_bad (Flow a b c d) never = inr (inr refl)
-not_bad (Bad a b) never = absurd (never a b refl)
-
-pub not_length : (a : Assembled) → ((n : ℕ) → a ≡ Length n → ⊥) → OneOf (1 ∷ 2 ∷ 3 ∷ []) (tag_of assembled-type a)
-not_length (Length n) never = absurd (never n refl)
-not_length (BadLine k command place) never = inl refl
-not_length Short never = inr (inl refl)
-not_length Long never = inr (inr refl)
-
--- A line that is not wrong has another answer.
-right : (t : Typed) (k : ℕ) (other : Assembled) → OneOf (0 ∷ 1 ∷ 2 ∷ []) (tag_of the_type t) → wrong_or t k other ≡ other
-unfolding wrong_or
-right Nothing k other h = refl
-right (Node a b c) k other h = refl
-right (Flow a b c d) k other h = refl
-right (Bad a b) k other h = absurd (no_three h)
 
 pub piece_short : (t : Typed) → length (text_of (piece_of t)) ≤ 6
 unfolding piece_of text_of bytes_of
@@ -63,106 +33,112 @@ piece_short (Node a b c) = omega arith
 piece_short (Flow a b c d) = omega arith
 piece_short (Bad a b) = omega arith
 
-pub piece_as : (s : ℕ × List ℕ) (t u : Typed) → t ≡ u → puts s (piece_of t) ≡ puts s (piece_of u)
-piece_as s t u e = rw e
+-- The parts that `split` gives at newlines are the lines.
+abbrev parts_of : List ℕ → List (List ℕ)
+parts_of text = slice_split (λ c. eqb c 10) text
 
--- The line of a text from an index up to the next newline, or to the end, is the first of those that are left.
-module _ (text : List ℕ) (at end : ℕ) (w : Reaches (is 10) text at end) (few : at ≤ length text) where
-  line_last : end ≡ length text → lines_of (drop at text) ≡ take (end - at) (drop at text) ∷ []
-  unfolding lines_of
-  line_last e = parts_last (is 10) text at end w (omega (arith, w.onward)) (omega arith)
+lines_split : (text : List ℕ) → parts_of text ≡ lines_of text
+unfolding lines_of parts onto
+lines_split [] = refl
+lines_split (c ∷ cs) = go (eqb c 10) (slice_split (λ c. eqb c 10) cs) (parts (is 10) cs) (lines_split cs)
+  where
+    go : (b : Bool) (xs ys : List (List ℕ)) → xs ≡ ys → cond b ([] ∷ xs) (onto_first c xs) ≡ cond b ([] ∷ ys) (onto c ys)
+    go true xs ys e = rw e refl
+    go false xs [] e = rw e refl
+    go false xs (y ∷ ys) e = rw e refl
 
-  line_more : end < length text → lines_of (drop at text) ≡ take (end - at) (drop at text) ∷ lines_of (drop (end + 1) text)
-  unfolding lines_of
-  line_more l = parts_marked (is 10) text at end w (omega (arith, w.onward)) l
+-- A line that is at hand is the first of those that are left.
+line_left : (text : List ℕ) (n : ℕ) (line : List ℕ) → (n < length (parts_of text)) × (line ≡ get_or (parts_of text) n line)
+    → drop n (lines_of text) ≡ line ∷ drop (n + 1) (lines_of text)
+line_left text n line h = rw (← lines_split text, add-one n) (drop-cons (parts_of text) n line h.0 ∙ ap (λ (l : List ℕ). l ∷ drop (suc n) (parts_of text)) (sym h.1))
 
-  pub line_on : at ≤ end
-  line_on = omega (arith, w.onward)
+lines_left : (text : List ℕ) (n : ℕ) → n ≡ length (parts_of text) → drop n (lines_of text) ≡ []
+lines_left text n l = rw (← lines_split text) (drop_of_length-le (parts_of text) (omega arith))
 
--- The space t has the commands of the lines before index `at`: those of the others make it what all make of s.
-pub record Putting (text : List ℕ) (s : ℕ × List ℕ) (at : ℕ) (t : ℕ × List ℕ) : Type 0 where
-  pub few : at ≤ length text
-  pub rest : puts t (pieces_of (lines_of (drop at text))) ≡ puts s (pieces_of (lines_of text))
+-- The same of a line with its number, from 0 on.
+pub numbered_line : (text : List ℕ) (n i : ℕ) (line : List ℕ)
+    → (n < length (enumerate_from 0 (parts_of text))) × (◌≡◌ {A = ℕ × List ℕ} (i, line) (get_or (enumerate_from 0 (parts_of text)) n (i, line)))
+    → (i ≡ n) × (n < length (parts_of text)) × (line ≡ get_or (parts_of text) n line)
+numbered_line text n i line h =
+    let l : n < length (parts_of text) = omega (arith, h.0, length-enumerate_from 0 (parts_of text)) in
+    let e : ◌≡◌ {A = ℕ × List ℕ} (i, line) (0 + n, get_or (parts_of text) n line) = h.1 ∙ get_or-enumerate_from 0 (parts_of text) n (i, line) l in
+    (ap (λ (x : ℕ × List ℕ). x.0) e ∙ zero-add n, l, ap (λ (x : ℕ × List ℕ). x.1) e)
+
+-- A line that is read is no wrong line, and takes six bytes at most.
+pub read_right : (command : Option Command) (k : ℕ) (other : Assembled) → wrong_or (typed (Ok command)) k other ≡ other
+unfolding wrong_or
+read_right None k other = refl
+read_right (Some (node parent capacity gap)) k other = refl
+read_right (Some (flow number entry rate deadline)) k other = refl
+
+pub said_long : (command : Command) → 6 ≡ length (text_of (piece_of (command_said command)))
+unfolding piece_of text_of bytes_of
+said_long (node parent capacity gap) = refl
+said_long (flow number entry rate deadline) = refl
+
+-- The space t has the commands of the first n lines: those of the others make it what all make of s.
+pub record Putting (text : List ℕ) (s : ℕ × List ℕ) (n : ℕ) (t : ℕ × List ℕ) : Type 0 where
+  pub rest : puts t (pieces_of (drop n (lines_of text))) ≡ puts s (pieces_of (lines_of text))
 
 module _ (text : List ℕ) (s : ℕ × List ℕ) where
   pub putting_start : Putting text s 0 s
-  putting_start = record { few = omega arith; rest = refl }
+  putting_start = record { rest = refl }
 
-  module _ (at end : ℕ) (t u : ℕ × List ℕ) (p : Putting text s at t) (w : Reaches (is 10) text at end)
-      (e : u ≡ puts t (piece_of (typed_line (take (end - at) (drop at text))))) where
-    pub putting_more : end < length text → Putting text s (end + 1) u
+  module _ (n : ℕ) (t : ℕ × List ℕ) (p : Putting text s n t) where
+    pub putting_more : (line : List ℕ) → (n < length (parts_of text)) × (line ≡ get_or (parts_of text) n line) → (u : ℕ × List ℕ)
+        → u ≡ puts t (piece_of (typed_line line)) → Putting text s (n + 1) u
     unfolding pieces_of
-    putting_more l = record {
-      few = omega arith;
-      rest = puts_then t u _ (piece_of (typed_line (take (end - at) (drop at text)))) (pieces_of (lines_of (drop (end + 1) text))) e refl
-          ∙ sym (ap (λ (ls : List (List ℕ)). puts t (pieces_of ls)) (line_more text at end w p.few l)) ∙ p.rest;
+    putting_more line h u e = record {
+      rest = puts_then t u _ (piece_of (typed_line line)) (pieces_of (drop (n + 1) (lines_of text))) e refl
+          ∙ sym (ap (λ (ls : List (List ℕ)). puts t (pieces_of ls)) (line_left text n line h)) ∙ p.rest;
     }
 
-    pub putting_last : end ≡ length text → (v : ℕ × List ℕ) (code : ℕ) → v ≡ put u (code ∷ []) → code ≡ 255 → v ≡ puts s (pieces_of (lines_of text))
+    pub putting_end : n ≡ length (parts_of text) → (v : ℕ × List ℕ) (code : ℕ) → v ≡ put t (code ∷ []) → code ≡ 255 → v ≡ puts s (pieces_of (lines_of text))
     unfolding pieces_of
-    putting_last l v code f q =
-        puts_then t u v (piece_of (typed_line (take (end - at) (drop at text)))) ((255 ∷ []) ∷ []) e (puts_one u v (255 ∷ []) (f ∙ rw q))
-        ∙ sym (ap (λ (ls : List (List ℕ)). puts t (pieces_of ls)) (line_last text at end w p.few l)) ∙ p.rest
+    putting_end l v code f q =
+        puts_one t v (255 ∷ []) (f ∙ rw q) ∙ sym (ap (λ (ls : List (List ℕ)). puts t (pieces_of ls)) (lines_left text n l)) ∙ p.rest
 
-  pub put_long : (t : ℕ × List ℕ) → t ≡ puts s (pieces_of (lines_of text)) → length t.1 ≡ length s.1
-  put_long t e = ap (λ (x : ℕ × List ℕ). length x.1) e ∙ puts_long s (pieces_of (lines_of text))
-
--- No line before index `at` is wrong, and their commands and END take `size` bytes.
-pub record Checking (text : List ℕ) (at line size : ℕ) : Type 0 where
-  pub few : at ≤ length text
-  pub lines : line ≤ at + 1
-  pub small : size ≤ 6 * line
-  pub rest : (other : Assembled) → first_wrong (lines_of (drop at text)) line other ≡ first_wrong (lines_of text) 1 other
-  pub sum : size + length (text_of (pieces_of (lines_of (drop at text)))) ≡ length (plan_typed text) + 1
+-- None of the first n lines is wrong, and their commands and END take `size` bytes.
+pub record Checking (text : List ℕ) (n size : ℕ) : Type 0 where
+  pub small : size ≤ 6 * n + 1
+  pub rest : (other : Assembled) → first_wrong (drop n (lines_of text)) (n + 1) other ≡ first_wrong (lines_of text) 1 other
+  pub sum : size + length (text_of (pieces_of (drop n (lines_of text)))) ≡ length (plan_typed text) + 1
 
 module _ (text : List ℕ) where
-  pub checking_start : Checking text 0 1 1
+  pub checking_start : Checking text 0 1
   unfolding plan_typed
-  checking_start = record { few = omega arith; lines = omega arith; small = omega arith; rest = λ other. refl; sum = omega arith }
+  checking_start = record { small = omega arith; rest = λ other. refl; sum = omega arith }
 
-  module _ (at line size end : ℕ) (t : Typed) (p : Checking text at line size) (w : Reaches (is 10) text at end)
-      (e : t ≡ typed_line (take (end - at) (drop at text))) where
-    -- A wrong line is told.
-    pub checking_wrong : (command place : ℕ) → t ≡ Bad command place → (other : Assembled) → BadLine line command place ≡ first_wrong (lines_of text) 1 other
-    unfolding first_wrong wrong_or
-    checking_wrong command place q other = elim (eq-or-lt_of_le {n = end} {m = length text} w.within) [
-      | inl l ↦ told [] (line_last text at end w p.few l)
-      | inr l ↦ told (lines_of (drop (end + 1) text)) (line_more text at end w p.few l)
-    ]
-      where
-        told : (tail : List (List ℕ)) → lines_of (drop at text) ≡ take (end - at) (drop at text) ∷ tail → BadLine line command place ≡ first_wrong (lines_of text) 1 other
-        told tail r = sym (rw (r, sym e ∙ q)) ∙ p.rest other
+  module _ (n size : ℕ) (p : Checking text n size) where
+    module _ (line : List ℕ) (h : (n < length (parts_of text)) × (line ≡ get_or (parts_of text) n line)) where
+      at_hand : drop n (lines_of text) ≡ line ∷ drop (n + 1) (lines_of text)
+      at_hand = line_left text n line h
 
-    module _ (h : OneOf (0 ∷ 1 ∷ 2 ∷ []) (tag_of the_type t)) (n : ℕ) (b : n ≡ length (text_of (piece_of t))) where
-      passed : (tail : List (List ℕ)) → lines_of (drop at text) ≡ take (end - at) (drop at text) ∷ tail
-          → ((other : Assembled) → first_wrong tail (line + 1) other ≡ first_wrong (lines_of text) 1 other)
-          × (size + n + length (text_of (pieces_of tail)) ≡ length (plan_typed text) + 1)
+      -- A wrong line is told.
+      pub checking_wrong : (command place : ℕ) → Bad command place ≡ typed_line line → (other : Assembled) → BadLine (n + 1) command place ≡ first_wrong (lines_of text) 1 other
+      unfolding first_wrong wrong_or
+      checking_wrong command place q other = sym (rw (at_hand, sym q) refl) ∙ p.rest other
+
+      -- Behind any other the check goes on.
+      pub checking_more : (t : Typed) → t ≡ typed_line line → ((k : ℕ) (other : Assembled) → wrong_or t k other ≡ other)
+          → (m : ℕ) → m ≡ length (text_of (piece_of t)) → Checking text (n + 1) (size + m)
       unfolding first_wrong pieces_of
-      passed tail r =
-          let more : length (text_of (piece_of t ++ pieces_of tail)) ≡ length (text_of (piece_of t)) + length (text_of (pieces_of tail)) =
-          text_append (piece_of t) (pieces_of tail) in
-          let left : pieces_of (lines_of (drop at text)) ≡ piece_of t ++ pieces_of tail = rw (r, sym e) in (
-            λ other. sym (rw (r, sym e) (right t line (first_wrong tail (line + 1) other) h)) ∙ p.rest other,
-            omega (arith, b, more, rw left at p.sum),
-          )
-
-      pub checking_more : end < length text → Checking text (end + 1) (line + 1) (size + n)
-      checking_more l =
-          let s = passed (lines_of (drop (end + 1) text)) (line_more text at end w p.few l) in
+      checking_more t e right m b =
+          let more : length (text_of (piece_of t ++ pieces_of (drop (n + 1) (lines_of text)))) ≡ length (text_of (piece_of t)) + length (text_of (pieces_of (drop (n + 1) (lines_of text)))) =
+          text_append (piece_of t) (pieces_of (drop (n + 1) (lines_of text))) in
+          let left : pieces_of (drop n (lines_of text)) ≡ piece_of t ++ pieces_of (drop (n + 1) (lines_of text)) = rw (at_hand, sym e) refl in
           record {
-            few = omega arith;
-            lines = omega (arith, p.lines, line_on text at end w p.few);
             small = omega (arith, p.small, b, piece_short t);
-            rest = s.0;
-            sum = s.1;
+            rest = λ other. sym (rw (at_hand, sym e) (right (n + 1) (first_wrong (drop (n + 1) (lines_of text)) (n + 1 + 1) other))) ∙ p.rest other;
+            sum = omega (arith, b, more, rw left at p.sum);
           }
 
-      pub checking_last : end ≡ length text → Length (size + n) ≡ first_wrong (lines_of text) 1 (Length (length (plan_typed text)))
-      unfolding first_wrong pieces_of text_of
-      checking_last l =
-          let s = passed [] (line_last text at end w p.few l) in
-          let all : size + n ≡ length (plan_typed text) = omega (arith, s.1) in
-          rw all (s.0 (Length (length (plan_typed text))))
+    pub checking_end : n ≡ length (parts_of text) → Length size ≡ first_wrong (lines_of text) 1 (Length (length (plan_typed text)))
+    unfolding first_wrong pieces_of text_of
+    checking_end l =
+        let none : drop n (lines_of text) ≡ [] = lines_left text n l in
+        let all : size ≡ length (plan_typed text) = omega (arith, rw none at p.sum) in
+        rw all (sym (rw none refl) ∙ p.rest (Length (length (plan_typed text))))
 
 -- What is stored, by what the check of all lines came to.
 pub assembled_long : (text out : List ℕ) → 65535 < length text → (Long, out) ≡ assembled_of text out
@@ -187,37 +163,36 @@ checked_length (l ∷ ls) k n = go (typed_line l) (checked_length ls (k + 1) n)
     go (Flow a b c d) e = e
     go (Bad a b) e = refl
 
-module _ (text out : List ℕ) (few : length text ≤ 65535) (a : Assembled) (e : a ≡ first_wrong (lines_of text) 1 (Length (length (plan_typed text)))) where
-  pub judged : assembled_of text out ≡ stored_plan a (plan_typed text) out
-  unfolding assembled_of
-  judged = rw (le-ltb _ _ few, e)
+module _ (text out : List ℕ) (few : length text ≤ 65535) where
+  module _ (a : Assembled) (e : a ≡ first_wrong (lines_of text) 1 (Length (length (plan_typed text)))) where
+    pub judged : assembled_of text out ≡ stored_plan a (plan_typed text) out
+    unfolding assembled_of
+    judged = rw (le-ltb _ _ few, e)
 
-  sized : (size : ℕ) → a ≡ Length size → size ≡ length (plan_typed text)
-  sized size q =
-      ap (λ (x : Assembled). length_of x (length (plan_typed text))) (sym q ∙ e) ∙ checked_length (lines_of text) 1 (length (plan_typed text))
+  module _ (size : ℕ) (e : Length size ≡ first_wrong (lines_of text) 1 (Length (length (plan_typed text)))) where
+    sized : size ≡ length (plan_typed text)
+    sized = ap (λ (x : Assembled). length_of x (length (plan_typed text))) e ∙ checked_length (lines_of text) 1 (length (plan_typed text))
 
-  pub assembled_short : (size : ℕ) → a ≡ Length size → length out < size → (Short, out) ≡ assembled_of text out
+    pub assembled_short : length out < size → (Short, out) ≡ assembled_of text out
+    unfolding stored_plan
+    assembled_short l = sym (judged (Length size) e ∙ rw (lt-ltb _ _ l))
+
+    pub assembled_stored : size ≤ length out → (r : ℕ) (new : List ℕ) → (r, new) ≡ puts (0, out) (pieces_of (lines_of text))
+        → (Length size, new) ≡ assembled_of text out
+    unfolding stored_plan plan_typed
+    assembled_stored l r new f =
+        let n : size ≡ length (text_of (pieces_of (lines_of text))) = sized in
+        let is : new ≡ plan_typed text ++ drop size out =
+        ap (λ (s : ℕ × List ℕ). s.1) (f ∙ puts_whole 0 out (pieces_of (lines_of text)) (omega arith)) ∙ rw (zero-add, sym n) in
+        sym (judged (Length size) e ∙ rw (le-ltb _ _ l) (ap (λ (o : List ℕ). (Length size, o)) (sym is)))
+
+  -- Every error leaves the slice.
+  pub assembled_told : (error : AssembleError) → assembled (Err error) ≡ first_wrong (lines_of text) 1 (Length (length (plan_typed text)))
+      → (assembled (Err error), out) ≡ assembled_of text out
   unfolding stored_plan
-  assembled_short size q l = sym (judged ∙ rw (q, lt-ltb _ _ l))
-
-  pub assembled_stored : (size : ℕ) → a ≡ Length size → size ≤ length out → (r : ℕ) (new : List ℕ) → (r, new) ≡ puts (0, out) (pieces_of (lines_of text))
-      → (Length size, new) ≡ assembled_of text out
-  unfolding stored_plan plan_typed
-  assembled_stored size q l r new f =
-      let n : size ≡ length (text_of (pieces_of (lines_of text))) = sized size q in
-      let is : new ≡ plan_typed text ++ drop size out =
-      ap (λ (s : ℕ × List ℕ). s.1) (f ∙ puts_whole 0 out (pieces_of (lines_of text)) (omega arith)) ∙ rw (zero-add, sym n) in
-      sym (judged ∙ rw (q, le-ltb _ _ l) (ap (λ (o : List ℕ). (Length size, o)) (sym is)))
-
-  pub assembled_told : OneOf (1 ∷ 2 ∷ 3 ∷ []) (tag_of assembled-type a) → (a, out) ≡ assembled_of text out
-  unfolding stored_plan
-  assembled_told h = sym (judged ∙ go a h)
-    where
-      go : (x : Assembled) → OneOf (1 ∷ 2 ∷ 3 ∷ []) (tag_of assembled-type x) → stored_plan x (plan_typed text) out ≡ (x, out)
-      go (Length n) h = absurd (no_zero h)
-      go (BadLine k command place) h = refl
-      go Short h = refl
-      go Long h = refl
+  assembled_told (WrongLine line mistake) e = sym (judged _ e)
+  assembled_told NoRoom e = sym (judged _ e)
+  assembled_told TooLong e = sym (judged _ e)
 
 -- A command has at most six bytes, and a text no more lines than bytes and one.
 pieces_short : (ls : List (List ℕ)) → length (text_of (pieces_of ls)) ≤ 6 * length ls + 1

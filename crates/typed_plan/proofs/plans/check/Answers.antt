@@ -1,41 +1,41 @@
-use native.Mathlib.Omega.{arith}
-use Rattle.typed_plan.proofs.Laws.Plans.{not_bad, piece_short, checking_start, checking_wrong, checking_more, checking_last, line_on}
+use Rattle.std.proofs.Common.{rules, refl, ◌∙◌, eqb}
+use Rattle.std.proofs.lemmas.Bool.Decides.{nat_tests}
+use Rattle.std.proofs.lemmas.List.{length_push}
+use Rattle.std.proofs.lemmas.List.FromFn.{length-enumerate_from}
+use Rattle.std.proofs.lemmas.Iterator.Splits.{YieldsList-from_slice_split}
+use Rattle.std.proofs.lemmas.Iterator.Consumers.{YieldsList-turn, YieldsList-end, YieldsList-at, YieldsList-from_enumerate}
+use Rattle.typed_plan.proofs.Laws.Plans.{checking_start, checking_wrong, checking_more, checking_end, numbered_line, read_right}
 use Rattle.typed_plan.proofs.plans.check.Goals as goal
 
-pub loop-command-init : goal.loop-command-init
-loop-command-init c = checking_start _
+pub loop-i-init : goal.loop-i-init
+loop-i-init c = checking_start _
 
-pub slice_bounds-read_line-count : goal.slice_bounds-read_line-count
-slice_bounds-read_line-count c = line_on _ _ _ c.find-end.ensures c.loop-command.invariant.few
+pub loop-i-preserved : goal.loop-i-preserved
+loop-i-preserved c =
+    let h = YieldsList-turn (YieldsList-at c.into_iter-i-iterator.ensures.into_iter_gives
+    (YieldsList-from_enumerate (YieldsList-at c.enumerate-i-items.ensures.source
+    (YieldsList-from_slice_split _ (λ b. eqb b 10) _ c.split.ensures.rest c.split.ensures.done c.split.ensures.closure
+    (λ x r q k. (refl, search (rules, nat_tests))))) c.enumerate-i-items.ensures.count))
+    c.loop-i.yielded _ c.loop-i.yielded_by _ _ (c.in-Some.i, c.in-Some.line) c.in-Some.is c.next.ensures.steps in
+    let g = numbered_line c.args.text.now _ _ _ h in
+    rw (length_push c.loop-i.yielded (c.in-Some.i, c.in-Some.line))
+    (checking_more _ _ _ c.loop-i.invariant _ (g.1, g.2) _ c.in-Ok.ensures (read_right _) _ c.command_size-size.ensures.0)
 
-pub slice_bounds-read_line-end : goal.slice_bounds-read_line-end
-slice_bounds-read_line-end c = c.find-end.ensures.within
+pub returns-in-Err : goal.returns-in-Err
+returns-in-Err c =
+    let h = YieldsList-turn (YieldsList-at c.into_iter-i-iterator.ensures.into_iter_gives
+    (YieldsList-from_enumerate (YieldsList-at c.enumerate-i-items.ensures.source
+    (YieldsList-from_slice_split _ (λ b. eqb b 10) _ c.split.ensures.rest c.split.ensures.done c.split.ensures.closure
+    (λ x r q k. (refl, search (rules, nat_tests))))) c.enumerate-i-items.ensures.count))
+    c.loop-i.yielded _ c.loop-i.yielded_by _ _ (c.in-Some.i, c.in-Some.line) c.in-Some.is c.next.ensures.steps in
+    let g = numbered_line c.args.text.now _ _ _ h in
+    rw g.0 (checking_wrong _ _ _ c.loop-i.invariant _ (g.1, g.2) _ _ c.in-Err.ensures _)
 
-pub returns-in-Bad : goal.returns-in-Bad
-returns-in-Bad c =
-    checking_wrong _ _ _ _ _ _ c.loop-command.invariant c.find-end.ensures c.read_line-typed.ensures _ _ c.in-Bad.is _
-
-pub overflow_add-size : goal.overflow_add-size
-overflow_add-size c =
-    let so_far = c.loop-command.invariant in
-    omega (arith, so_far.small, so_far.lines, so_far.few, c.command_size-size.ensures, piece_short c.read_line-typed.result)
-
-pub returns-then-end-text : goal.returns-then-end-text
-returns-then-end-text c =
-    checking_last _ _ _ _ _ _ c.loop-command.invariant c.find-end.ensures c.read_line-typed.ensures (not_bad _ c.in_default.not-Bad) _
-    c.command_size-size.ensures c.if-end-text.true
-
-pub overflow_add-at : goal.overflow_add-at
-overflow_add-at c = omega (arith, c.find-end.ensures.within)
-
-pub overflow_add-line : goal.overflow_add-line
-overflow_add-line c = omega (arith, c.loop-command.invariant.lines, c.loop-command.invariant.few)
-
-pub loop-command-smaller : goal.loop-command-smaller
-loop-command-smaller c =
-    omega (arith, c.find-end.ensures.within, line_on _ _ _ c.find-end.ensures c.loop-command.invariant.few)
-
-pub loop-command-preserved : goal.loop-command-preserved
-loop-command-preserved c =
-    checking_more _ _ _ _ _ _ c.loop-command.invariant c.find-end.ensures c.read_line-typed.ensures (not_bad _ c.in_default.not-Bad) _
-    c.command_size-size.ensures (omega (arith, c.find-end.ensures.within))
+pub returns : goal.returns
+returns c =
+    let h = YieldsList-end (YieldsList-at c.into_iter-i-iterator.ensures.into_iter_gives
+    (YieldsList-from_enumerate (YieldsList-at c.enumerate-i-items.ensures.source
+    (YieldsList-from_slice_split _ (λ b. eqb b 10) _ c.split.ensures.rest c.split.ensures.done c.split.ensures.closure
+    (λ x r q k. (refl, search (rules, nat_tests))))) c.enumerate-i-items.ensures.count))
+    c.loop-i.yielded _ c.loop-i.yielded_by _ _ c.in-None.is c.next.ensures.steps in
+    checking_end _ _ _ c.loop-i.invariant (h.1 ∙ length-enumerate_from 0 _)

@@ -1,11 +1,7 @@
--- Right because no line before the index is wrong, and the size is that of their commands and END; length text - at falls.
-use Prim.Native.Nat.{◌-◌}
+-- Right because no line that is passed is wrong, and their commands and END take `size` bytes.
 use lib.ListN.{length}
 use Rattle.typed_plan.proofs.Laws.Plans.{Checking}
 use Rattle.typed_plan.proofs.plans.check.Given as goal
 
-abbrev pub invariant-loop-command : goal.invariant-loop-command
-invariant-loop-command l = Checking l.text l.at l.line l.size
-
-abbrev pub decreases-loop-command : goal.decreases-loop-command
-decreases-loop-command l = length l.text - l.at
+abbrev pub invariant-loop-i : goal.invariant-loop-i
+invariant-loop-i l = Checking l.text (length l.yielded) l.size

@@ -1,21 +1,13 @@
--- Right because a command has six bytes.
-use Rattle.format.specs.Bytes.{bytes_of}
+use mathlib.Core.Path.{refl}
+use native.Mathlib.Omega.{arith}
 use Rattle.text.specs.Put.{text_of}
 use Rattle.typed_plan.specs.Assemble.{piece_of}
+use Rattle.typed_plan.proofs.Laws.Plans.{said_long}
 use Rattle.typed_plan.proofs.plans.command_size.Goals as goal
 
-pub returns-in-Nothing : goal.returns-in-Nothing
-unfolding piece_of text_of bytes_of
-returns-in-Nothing c = rw c.in-Nothing.is
+pub returns-in-Some : goal.returns-in-Some
+returns-in-Some c = (rw c.in-Some.is (said_long c.in-Some.field-0), omega arith)
 
-pub returns-in-Node : goal.returns-in-Node
-unfolding piece_of text_of bytes_of
-returns-in-Node c = rw c.in-Node.is
-
-pub returns-in-Flow : goal.returns-in-Flow
-unfolding piece_of text_of bytes_of
-returns-in-Flow c = rw c.in-Flow.is
-
-pub returns-in-Bad : goal.returns-in-Bad
-unfolding piece_of text_of bytes_of
-returns-in-Bad c = rw c.in-Bad.is
+pub returns-in-None : goal.returns-in-None
+unfolding piece_of text_of
+returns-in-None c = (rw c.in-None.is refl, omega arith)
