@@ -1,70 +1,52 @@
 // Turns the typed plan on standard input into plan bytes on standard output, or tells its first wrong line on standard error.
 #![tactic(auto)]
 
-use std::env::{Env, FillError};
-use typed_plan::Assembled;
+use text::Page;
+use typed_line::{Kind, Mistake};
+use typed_plan::AssembleError;
 
-fn put_node_fault(out: &mut [u8], at: usize, place: u8) -> usize {
-    match place {
-        2 => slices::put(out, at, b"PARENT must be a number from 0 to 255"),
-        3 => slices::put(out, at, b"CAPACITY must be a number from 0 to 65535"),
-        4 => slices::put(out, at, b"GAP must be a number from 0 to 65535"),
-        _ => slices::put(out, at, b"a word too many"),
+fn sentence(mistake: Mistake) -> &'static [u8] {
+    match (mistake.named, mistake.place) {
+        (None, _) => b"neither node nor flow",
+        (Some(Kind::Node), 2) => b"PARENT must be a number from 0 to 255",
+        (Some(Kind::Node), 3) => b"CAPACITY must be a number from 0 to 65535",
+        (Some(Kind::Node), 4) => b"GAP must be a number from 0 to 65535",
+        (Some(Kind::Flow), 2) => b"NUMBER must be a number from 0 to 255",
+        (Some(Kind::Flow), 3) => b"NODE must be a number from 0 to 255",
+        (Some(Kind::Flow), 4) => b"RATE must be a number from 0 to 255",
+        (Some(Kind::Flow), 5) => b"DEADLINE must be a number from 0 to 65535",
+        _ => b"a word too many",
     }
 }
 
-fn put_flow_fault(out: &mut [u8], at: usize, place: u8) -> usize {
-    match place {
-        2 => slices::put(out, at, b"NUMBER must be a number from 0 to 255"),
-        3 => slices::put(out, at, b"NODE must be a number from 0 to 255"),
-        4 => slices::put(out, at, b"RATE must be a number from 0 to 255"),
-        5 => slices::put(out, at, b"DEADLINE must be a number from 0 to 65535"),
-        _ => slices::put(out, at, b"a word too many"),
-    }
-}
-
-fn put_fault(out: &mut [u8], at: usize, command: u8, place: u8) -> usize {
-    match command {
-        1 => put_node_fault(out, at, place),
-        2 => put_flow_fault(out, at, place),
-        _ => slices::put(out, at, b"neither node nor flow"),
-    }
-}
-
-fn tell_line(line: usize, command: u8, place: u8) {
+fn tell_line(line: usize, mistake: Mistake) {
     let mut told = [0u8; 128];
-    let numbered = text::put_field(&mut told, 0, b"line ", line as u64);
-    let parted = slices::put(&mut told, numbered, b": ");
-    let judged = put_fault(&mut told, parted, command, place);
-    let size = slices::put(&mut told, judged, b"\n");
-    if size <= 128 {
-        io::write_all(2, &told[0..size]);
-    }
+    let mut page = Page::over(&mut told);
+    page.put_field(b"line ", line as u64);
+    page.put(b": ");
+    page.put(sentence(mistake));
+    page.put(b"\n");
+    io::write_all(2, page.text());
 }
 
-fn finish(assembled: Assembled, plan: &[u8]) {
+fn finish(assembled: Result<usize, AssembleError>, plan: &[u8]) {
     match assembled {
-        Assembled::Length(size) => {
+        Ok(size) => {
             if size <= plan.len() {
-                io::write_all(1, &plan[0..size]);
+                io::write_all(1, &plan[..size]);
             }
         }
-        Assembled::BadLine(line, command, place) => tell_line(line, command, place),
-        Assembled::Short => {}
-        Assembled::Long => {
+        Err(AssembleError::WrongLine { line, mistake }) => tell_line(line, mistake),
+        Err(AssembleError::NoRoom) => {}
+        Err(AssembleError::TooLong) => {
             io::write_all(2, b"assemble: more than 65535 bytes\n");
         }
     }
 }
 
-// Whether the command line has a word at this place; the first is the name of the program.
-fn has_word(rt: &impl Env, at: usize) -> bool {
-    !matches!(rt.arg(at, &mut [0u8; 1]), Err(FillError::NotPresent))
-}
-
 // A text of 65,536 bytes is too long already. The plan of any shorter one has at most 393,217 bytes: this is the law `plan_short` of crate `typed_plan`.
 fn main(rt: HostRuntime) {
-    if !has_word(&rt, 0) || has_word(&rt, 1) {
+    if !arguments::stands_alone(&rt) {
         io::write_all(2, b"usage: assemble < TEXT > PLAN\n");
         return;
     }
