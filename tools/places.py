@@ -72,7 +72,7 @@ def count_points(commit):
             shape = re.sub(r"\b[a-z_]\w*\b(?=\()", "f", shape)
             shape = re.sub(r"\b(?!if\b|let\b|mut\b|while\b|for\b|in\b|return\b|match\b|loop\b|else\b|as\b|f\b)[a-z_]\w*\b", "x", shape)
             shape = re.sub(r"\b[A-Z]\w*\b", "T", re.sub(r"\s+", "", shape))
-            if len(shape) > 60 and not path.startswith(("crates/test", "crates/slotplan_lib")):
+            if len(shape) > 30 and not path.startswith(("crates/test", "crates/slotplan_lib")):
                 shapes[shape].append(f"{path}: fn {name}")
             # 3: loops that count an index by hand
             for m in re.finditer(r"\b(while ([^{;]*)|loop )\{", body):
