@@ -1,14 +1,15 @@
 -- What the writers of schedules store, link after link.
 use Prim.Native.Nat.{ℕ, ◌+◌, ◌*◌, ◌≤◌}
-use mathlib.Core.Path.{◌≡◌, refl, sym}
-use mathlib.Core.List.{List, [], ◌∷◌}
-use lib.ListN.{length, get_or, set, length-append}
-use lib.Seq.{sets}
+use mathlib.Core.Path.{◌≡◌, refl, sym, ◌∙◌}
+use mathlib.Core.List.{List, [], ◌∷◌, ◌++◌}
+use lib.ListN.{length, get_or, drop, set, length-append}
+use lib.Seq.{sets, sets-eq}
 use native.Mathlib.Nat.{zero-add}
 use native.Mathlib.Omega.{arith}
 use Rattle.format.specs.Bytes.{bytes_of}
 use Rattle.format.specs.Commands.{schedule_size}
 use Rattle.schedule_check.specs.declared.Schedule.{Schedule}
+use Rattle.schedule_check.specs.Schedules.{of_lists}
 use Rattle.schedule_writer.specs.Write.{link_command, link_bytes, schedule_bytes}
 use Rattle.lists.specs.Lists.{joined}
 use Rattle.slices.proofs.Laws.Stores.{sets_append, sized_each}
@@ -21,22 +22,35 @@ pub link_size : (s : Schedule) (i : ℕ) → length (link_bytes s i) ≡ schedul
 unfolding link_bytes bytes_of schedule_size
 link_size s i = refl
 
--- A schedule: links, FF.
-module _ (s : Schedule) where
-  -- m stands for the size of a LINK.
-  module _ (m : ℕ) (is : m ≡ schedule_size 17) where
-    pub links_few : s.links ≤ 63 → m * s.links ≤ 378
-    unfolding schedule_size
-    links_few few = rw is (omega arith)
+-- How many bytes links and a schedule take. m stands for the size of a LINK.
+module _ (s : Schedule) (m : ℕ) (is : m ≡ schedule_size 17) where
+  pub links_few : s.links ≤ 63 → m * s.links ≤ 378
+  unfolding schedule_size
+  links_few few = rw is (omega arith)
 
-    pub links_size : m * s.links ≡ length (joined (link_bytes s) s.links 0)
-    links_size = rw is (sym (sized_each (link_bytes s) (schedule_size 17) (link_size s) s.links 0))
+  pub links_size : m * s.links ≡ length (joined (link_bytes s) s.links 0)
+  links_size = rw is (sym (sized_each (link_bytes s) (schedule_size 17) (link_size s) s.links 0))
 
-    pub schedule_size_lem : m * s.links + 1 ≡ length (schedule_bytes s)
-    unfolding schedule_bytes
-    schedule_size_lem = simp (length-append, ← links_size)
-
-  pub schedule_stored : (out a : List ℕ) (end : ℕ) → a ≡ sets out 0 (joined (link_bytes s) s.links 0)
-      → end ≡ length (joined (link_bytes s) s.links 0) → set a end 255 ≡ sets out 0 (schedule_bytes s)
+  pub schedule_size_lem : m * s.links + 1 ≡ length (schedule_bytes s)
   unfolding schedule_bytes
-  schedule_stored out a end p e = rw (sets_append out 0 (joined (link_bytes s) s.links 0) (255 ∷ []), zero-add, ← p, ← e)
+  schedule_size_lem = simp (length-append, ← links_size)
+
+-- A schedule: links, FF.
+module _ (n : ℕ) (offsets periods : List ℕ) where
+  pub links_long : length (joined (link_bytes (of_lists n offsets periods)) n 0) ≡ 6 * n
+  unfolding schedule_size
+  links_long = sym (links_size (of_lists n offsets periods) 6 refl)
+
+  pub schedule_long : length (schedule_bytes (of_lists n offsets periods)) ≡ 6 * n + 1
+  unfolding schedule_size
+  schedule_long = sym (schedule_size_lem (of_lists n offsets periods) 6 refl)
+
+  pub schedule_stored : (out a : List ℕ) (end : ℕ) → 6 * n + 1 ≤ length out → a ≡ sets out 0 (joined (link_bytes (of_lists n offsets periods)) n 0) → end ≡ 6 * n
+      → set a end 255 ≡ schedule_bytes (of_lists n offsets periods) ++ drop (6 * n + 1) out
+  unfolding schedule_bytes
+  schedule_stored out a end room p e =
+      let links = joined (link_bytes (of_lists n offsets periods)) n 0 in
+      let whole : set a end 255 ≡ sets out 0 (links ++ (255 ∷ [])) =
+      rw (sets_append out 0 links (255 ∷ []), zero-add, ← p, links_long, ← e) in
+      let long : 0 + length (links ++ (255 ∷ [])) ≡ 6 * n + 1 = omega (arith, length-append links (255 ∷ []), links_long) in
+      whole ∙ sets-eq (links ++ (255 ∷ [])) out 0 (omega arith) ∙ rw long
