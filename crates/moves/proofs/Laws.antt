@@ -29,6 +29,7 @@ use Rattle.moves.specs.Moves.{recounted, cells_after}
 use Rattle.slot_checks.specs.Checks.{overflows, first_overflow, arrivals_ruling, advance_ruling}
 use Rattle.moves.specs.Inner.{AllMovable}
 use Rattle.moves.proofs.Laws.Moves.{length_after}
+use Rattle.moves.proofs.Laws.Answers.{recount_accepted, recount_refused}
 
 -- A route has a hop for each of its links, in the same order.
 pub length_along : (hop : ℕ → Hop) (ms : List ℕ) → length (hops_along hop ms) ≡ length ms
@@ -95,3 +96,6 @@ advance_ready s cs xs e =
         fits = ltb-false _ _ (rw (eq-eqb _ _ on) at ((first_none (overflows s cs xs) 64).0 (ltb-false _ _ c.0) n l));
       };
     }
+
+-- What `advance` is proved by.
+pub ruleset advance_rules = (advance_ready, recount_accepted, recount_refused)

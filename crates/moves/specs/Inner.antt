@@ -3,7 +3,6 @@ use Rattle.std.specs.Prelude.{ℕ, ◌+◌, ◌≤◌, ◌<◌, ◌≡◌, true,
 use Rattle.lists.specs.Lists.{total}
 use Rattle.site.specs.declared.Site.{Site}
 use Rattle.tree.specs.Tree.{of_link, route}
-use Rattle.site.specs.Sites.{of_lists}
 use Rattle.reservations.specs.Reservations.{periods_judged, width_at}
 use Rattle.schedule.specs.Schedule.{link_sends}
 use Rattle.counters.specs.Blocks.{cells_of}
@@ -36,13 +35,3 @@ pub record AllMovable (states counters arrivals : List ℕ) : Type 0 where
   pub counted : length counters ≡ 576
   pub listed : length arrivals ≡ 64
   pub each : (n : ℕ) → n < 64 → get_or states n 0 ≡ 1 → Movable (cells_of n counters) (get_or arrivals n 0)
-
--- The site with so many links, and these slots.
-abbrev pub with_slots : Site → ℕ → List ℕ → List ℕ → Site
-with_slots s links offsets periods =
-    of_lists links s.parents s.capacities s.gaps offsets periods s.states s.entries s.rates s.deadlines
-
--- The site with other routes: these parents, and flows with these states, entries and rates.
-abbrev pub with_routes : Site → List ℕ → List ℕ → List ℕ → List ℕ → Site
-with_routes s parents states entries rates =
-    of_lists s.links parents s.capacities s.gaps s.offsets s.periods states entries rates s.deadlines

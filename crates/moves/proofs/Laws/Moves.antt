@@ -20,6 +20,7 @@ use Rattle.site.specs.declared.Site.{Site}
 use Rattle.site.specs.Sites.{used, live}
 use Rattle.tree.specs.Tree.{of_link, up, route}
 use Rattle.reservations.specs.Reservations.{periods_judged, route_of, width_at}
+use Rattle.reservations.proofs.Laws.Reservations.{width_le}
 use Rattle.tree.proofs.Laws.Tree.{up_within, route_up, route_end, way_up}
 use Rattle.schedule.specs.Schedule.{link_sends}
 use Rattle.counters.specs.Blocks.{block, cells_of}
@@ -32,18 +33,13 @@ use Rattle.moves.specs.Inner.{period_in, PeriodsIn, in_slot, hops_in, Movable, A
 
 -- The list of the periods of links that send, of which the first i entries are in; the others are 0 still.
 pub record Sending (s : Site) (t i : ℕ) (xs : List ℕ) : Type 0 where
-  pub most : i ≤ used s.links
   pub long : length xs ≡ 63
   pub done : (k : ℕ) → k < i → get_or xs k 0 ≡ period_in s t (suc k)
   pub rest : (k : ℕ) → i ≤ k → get_or xs k 0 ≡ 0
 
 module _ (s : Site) (t : ℕ) where
   pub sending_start : Sending s t 0 (replicate 63 0)
-  sending_start = record { most = omega arith; long = refl; done = λ k l. absurd (omega arith); rest = λ k l. get_or_replicated 63 k 0 }
-
-  pub sending_few : (i : ℕ) (xs : List ℕ) → Sending s t i xs → i < used s.links → i < 63
-  unfolding used
-  sending_few i xs w l = omega arith
+  sending_start = record { long = refl; done = λ k l. absurd (omega arith); rest = λ k l. get_or_replicated 63 k 0 }
 
   -- The link of index i by its own entries.
   link_is : (i : ℕ) → i < used s.links → link_sends s (suc i) t ≡ sends (get_or s.periods i 0) (get_or s.offsets i 0) t
@@ -53,31 +49,29 @@ module _ (s : Site) (t : ℕ) where
   module _ (i : ℕ) (xs : List ℕ) (w : Sending s t i xs) (l : i < used s.links) (b : Bool)
       (e : b ≡ sends (get_or s.periods i 0) (get_or s.offsets i 0) t) where
     pub sending_yes : b ≡ true → Sending s t (i + 1) (set xs i (get_or (periods_judged s) i 0))
-    unfolding period_in of_link
+    unfolding period_in of_link used
     sending_yes q = record {
-      most = omega arith;
       long = length-set xs i _ ∙ w.long;
       done = below_more _ i
           (λ k m. get_or-set_other xs i k (get_or (periods_judged s) i 0) 0 (λ z. omega arith) ∙ w.done k m)
-          (get_or-set_same xs i (get_or (periods_judged s) i 0) 0 (omega (arith, w.long, sending_few i xs w l)) ∙ rw (link_is i l, ← e, q));
+          (get_or-set_same xs i (get_or (periods_judged s) i 0) 0 (omega (arith, w.long)) ∙ rw (link_is i l, ← e, q));
       rest = λ k m. get_or-set_other xs i k (get_or (periods_judged s) i 0) 0 (λ z. omega arith) ∙ w.rest k (omega arith);
     }
 
     pub sending_no : b ≡ false → Sending s t (i + 1) xs
     unfolding period_in
     sending_no q = record {
-      most = omega arith;
       long = w.long;
       done = below_more _ i w.done (w.rest i (omega arith) ∙ rw (link_is i l, ← e, q));
       rest = λ k m. w.rest k (omega arith);
     }
 
-  pub sending_end : (i : ℕ) (xs : List ℕ) → Sending s t i xs → used s.links ≤ i → PeriodsIn s t xs
+  pub sending_end : (i : ℕ) (xs : List ℕ) → Sending s t i xs → i ≡ used s.links → PeriodsIn s t xs
   unfolding period_in of_link link_sends used
-  sending_end i xs w l = record { each = each }
+  sending_end i xs w e = record { each = each }
     where
       past : (k : ℕ) → i ≤ k → k < 63 → link_sends s (suc k) t ≡ false
-      past k m h = rw (lt-ltb 0 (suc k) (omega arith), lt-leb (suc k) s.links (omega (arith, w.most)))
+      past k m h = rw (lt-ltb 0 (suc k) (omega arith), lt-leb (suc k) s.links (omega arith))
 
       each : (node : ℕ) → node ≤ 63 → of_link xs node ≡ cond (link_sends s node t) (of_link (periods_judged s) node) 0
       each zero h = refl
@@ -157,23 +151,21 @@ pub record Moving (hop : ℕ → Hop) (p : List ℕ) (t : ℕ) (goal cs : List �
   pub rest : goal ≡ onward (hops_along hop (route p node)) t k coming cs
 
 module _ (hop : ℕ → Hop) (p : List ℕ) (t : ℕ) where
-  module _ (x v node : ℕ) (cs : List ℕ) (m : Movable cs x) (e : v ≡ get_or cs 0 0 + x) where
-    pub moving_start : Moving hop p t (onward (hops_along hop (route p node)) t 0 0 (set cs 0 v)) (set cs 0 v) 0 0 node
-    moving_start = record {
-      nine = length-set cs 0 v ∙ m.nine;
-      room = omega arith;
-      fits = omega (arith, m.fits, total_set cs 0 v (omega (arith, m.nine)));
-      rest = refl;
-    }
-
-    pub moving_all : onward (hops_along hop (route p node)) t 0 0 (set cs 0 v) ≡ step (hops_along hop (route p node)) t x cs
-    unfolding step arrived onward
-    moving_all = go cs m.nine e
-      where
-        go : (ds : List ℕ) → length ds ≡ 9 → v ≡ get_or ds 0 0 + x
-            → passed (hops_along hop (route p node)) t 0 (set ds 0 v) ≡ passed (hops_along hop (route p node)) t 0 (arrived x ds)
-        go [] l q = absurd (omega arith)
-        go (d ∷ ds) l q = rw q
+  -- The arrival joins the first cell.
+  pub moving_start : (x v node : ℕ) (cs : List ℕ) → Movable cs x → v ≡ get_or cs 0 0 + x
+      → Moving hop p t (step (hops_along hop (route p node)) t x cs) (set cs 0 v) 0 0 node
+  unfolding step onward arrived
+  moving_start x v node cs m e = record {
+    nine = length-set cs 0 v ∙ m.nine;
+    room = omega arith;
+    fits = omega (arith, m.fits, total_set cs 0 v (omega (arith, m.nine)));
+    rest = joining cs m.nine e;
+  }
+    where
+      joining : (ds : List ℕ) → length ds ≡ 9 → v ≡ get_or ds 0 0 + x
+          → passed (hops_along hop (route p node)) t 0 (arrived x ds) ≡ passed (hops_along hop (route p node)) t 0 (set ds 0 v)
+      joining [] l q = absurd (omega arith)
+      joining (d ∷ ds) l q = rw q
 
   module _ (goal cs : List ℕ) (coming k node : ℕ) (w : Moving hop p t goal cs coming k node) where
     -- There is room for what comes to a queue.
@@ -213,9 +205,9 @@ module _ (hop : ℕ → Hop) (p : List ℕ) (t : ℕ) where
           sym (w.rest ∙ rw none (delivering_at coming k 8 cs (omega arith) w.nine))
 
 -- A link in the one slot that the list is for moves the smaller of queue and width.
-pub moved_in : (sending : List ℕ) (rate node q g m : ℕ) → g ≡ of_link sending node → m ≡ min q (rate * g) → m ≡ moved (in_slot sending rate node) 0 q
+pub moved_in : (sending : List ℕ) (rate node q r g m : ℕ) → r ≡ rate → g ≡ of_link sending node → m ≡ min q (r * g) → m ≡ moved (in_slot sending rate node) 0 q
 unfolding moved width_at
-moved_in sending rate node q g m e f = rw (f, e)
+moved_in sending rate node q r g m d e f = rw (f, d, e)
 
 -- A flow has nine cells after a slot as before.
 pub length_after : (v : Service) (s : Site) (cs xs : List ℕ) (t k : ℕ) → 9 * k + 9 ≤ length cs → length (cells_after v s cs xs t k) ≡ 9
@@ -290,15 +282,12 @@ module _ (s : Site) (t : ℕ) (cs₀ xs cs : List ℕ) (n : ℕ) (w : Kept cs₀
       let size : 9 * n + 9 - 9 * n ≡ 9 = omega arith in
       record { done = rw (end, take-add (9 * n) 9 cs, v.done, joined_more (cells_after own s cs₀ xs t) n, off, ← cells_lent cs₀ cs n w l, size) }
 
--- Where no number from n on is live, that is all.
-module _ (s : Site) (t : ℕ) (cs₀ xs cs : List ℕ) where
-  stepped_rest : (r n : ℕ) → n + r ≡ 64 → Kept cs₀ cs n → Stepped s t cs₀ xs cs n → ((k : ℕ) → n ≤ k → k < 64 → live s k ≡ false)
-      → cs ≡ joined (cells_after own s cs₀ xs t) 64 0
-  stepped_rest zero n e w v none = let end : n ≡ 64 = omega arith in sym (take_all 576 cs (omega (arith, w.long))) ∙ rw end at v.done
-  stepped_rest (suc r) n e w v none =
-      stepped_rest r (n + 1) (omega arith) (kept_dead cs₀ cs n w (omega arith))
-      (stepped_dead s t cs₀ xs cs n w v (omega arith) (none n (omega arith) (omega arith))) (λ k lo hi. none k (omega arith) hi)
+-- The 64 flows have 576 cells, and no more.
+pub stepped_end : (s : Site) (t : ℕ) (cs₀ xs cs : List ℕ) (n : ℕ) → Kept cs₀ cs n → Stepped s t cs₀ xs cs n → n ≡ 64
+    → cs ≡ joined (cells_after own s cs₀ xs t) 64 0
+stepped_end s t cs₀ xs cs n w v end = sym (take_all 576 cs (omega (arith, w.long))) ∙ rw end at v.done
 
-  pub stepped_end : (n : ℕ) → Kept cs₀ cs n → Stepped s t cs₀ xs cs n → ((k : ℕ) → n ≤ k → k < 64 → live s k ≡ false)
-      → cs ≡ joined (cells_after own s cs₀ xs t) 64 0
-  stepped_end n w = stepped_rest (64 - n) n (omega (arith, w.most)) w
+-- What the functions of src/lib.rt are proved by.
+pub ruleset moving_rules = (get_or_total, moving_fits, width_le)
+
+pub ruleset stepped_rules = (kept_start, kept_ready, stepped_start, stepped_end)
