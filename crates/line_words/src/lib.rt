@@ -78,8 +78,8 @@ pub fn read_number(word: &[u8], most: u32) -> Option<u32>
         if !byte.is_ascii_digit() {
             return None;
         }
-        value = value * 10 + (*byte - b'0') as u64;
-        if (most as u64) < value {
+        value = value * 10 + u64::from(*byte - b'0');
+        if u64::from(most) < value {
             return None;
         }
     }

@@ -153,23 +153,8 @@ module _ (line : List ℕ) where
   none_found from (Some r) a true e = absurd (true≢false e)
   none_found from (Some r) a false e = sym (ne_eqb r (length line) (λ q. absurd (omega (arith, a.0)))) ∙ ends_none from r a.1
 
-  -- A line without words from an index on, and the first of those that there are.
-  pub no_words : (from : ℕ) → none (words_of (drop from line)) ≡ true → words_of (drop from line) ≡ []
-  unfolding none
-  no_words from e = go (words_of (drop from line)) e
-    where
-      go : (ws : List (List ℕ)) → none ws ≡ true → ws ≡ []
-      go [] e = refl
-      go (w ∷ ws) e = absurd (true≢false (sym e))
-
+  -- The first of the words from an index on, or none.
   module _ (from start end : ℕ) (w : NextWord line from start end) where
-    pub word_begins : none (words_of (drop from line)) ≡ false → start < end
-    unfolding none
-    word_begins e = elim (eq-or-lt_of_le {n = start} {m = end} w.ordered) [
-      | inl q ↦ absurd (true≢false (rw (w.words, eq-eqb start end q) at e))
-      | inr l ↦ l
-    ]
-
     pub first_word : (start ≡ end → ⊥) → words_of (drop from line) ≡ take (end - start) (drop start line) ∷ words_of (drop end line)
     first_word n = w.words ∙ rw (ne_eqb start end n)
 

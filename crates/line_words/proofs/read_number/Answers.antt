@@ -12,16 +12,17 @@ unfolding is_digit
 returns-then-not-is_ascii_digit c =
     no_number _ _ (not_digit _ _ _ _ c.loop-byte.invariant c.loop-byte-test.true (sym c.if-not-is_ascii_digit.ensures.value))
 
-pub returns-then-most-value : goal.returns-then-most-value
-returns-then-most-value c =
+pub returns-then-from-value : goal.returns-then-from-value
+returns-then-from-value c =
     no_number _ _
-    (large_value _ _ _ _ c.loop-byte.invariant c.loop-byte-test.true (omega (arith, c.if-most-value.true)))
+    (large_value _ _ _ _ c.loop-byte.invariant c.loop-byte-test.true (omega (arith, c.if-from-value.true)))
 
 pub loop-byte-preserved : goal.loop-byte-preserved
 unfolding is_digit
 loop-byte-preserved c =
-    reads_more _ _ _ _ c.loop-byte.invariant c.loop-byte-test.true (sym c.if-not-is_ascii_digit.ensures.value)
-    (omega (arith, c.if-most-value.false))
+    let digit = c.from.ensures in
+    rw digit (reads_more _ _ _ _ c.loop-byte.invariant c.loop-byte-test.true (sym c.if-not-is_ascii_digit.ensures.value)
+    (omega (arith, c.if-from-value.false)))
 
 pub returns : goal.returns
 returns c = c.then_some.ensures ∙ reads_all _ _ _ _ c.loop-byte.invariant c.loop-byte-test.false

@@ -81,9 +81,6 @@ pub record Putting (text : List ℕ) (s : ℕ × List ℕ) (n : ℕ) (t : ℕ ×
   pub rest : puts t (pieces_of (drop n (lines_of text))) ≡ puts s (pieces_of (lines_of text))
 
 module _ (text : List ℕ) (s : ℕ × List ℕ) where
-  pub putting_start : Putting text s 0 s
-  putting_start = record { rest = refl }
-
   module _ (n : ℕ) (t : ℕ × List ℕ) (p : Putting text s n t) where
     pub putting_more : (line : List ℕ) → (n < length (parts_of text)) × (line ≡ get_or (parts_of text) n line) → (u : ℕ × List ℕ)
         → u ≡ puts t (piece_of (typed_line line)) → Putting text s (n + 1) u
