@@ -6,6 +6,7 @@ ghost use Rattle.typed_line.specs.Lines.{command_said, typed, typed_line};
 ghost use Rattle.typed_plan.specs.Assemble.{Length, piece_of, pieces_of, plan_typed, first_wrong, assembled};
 
 use crate::AssembleError;
+use format::END;
 use plan_writer::{flow_command, node_command};
 use slices::put;
 use typed_line::{Command, read_line};
@@ -69,7 +70,7 @@ fn put_line(out: &mut [u8], at: usize, line: &[u8]) -> usize
     }
 }
 
-// Behind the commands stands END, the byte 255.
+// Behind the commands stands END.
 pub(crate) fn put_plan(text: &[u8], out: &mut [u8]) -> usize
     ensures { (result, out.new) ≡ puts (0, out.old) (pieces_of (lines_of text.now)) }
 {
@@ -77,5 +78,5 @@ pub(crate) fn put_plan(text: &[u8], out: &mut [u8]) -> usize
     for line in text.split(|byte| *byte == b'\n') {
         taken = put_line(out, taken, line);
     }
-    put(out, taken, &[255])
+    put(out, taken, &[END])
 }
