@@ -1,7 +1,7 @@
 -- The slots of a site: the children of a parent by rising index, what the slot rule assigns them, and the schedule of all links.
 use Prim.Native.Nat.{ℕ, zero, suc, ◌+◌, ◌-◌, ◌≤◌, ◌<◌}
 use mathlib.Core.Path.{◌≡◌, refl, sym, ◌∙◌, ap}
-use mathlib.Core.Bool.{Bool, true, false, not, cond, ◌&&◌}
+use mathlib.Core.Bool.{Bool, true, false, not, cond, ◌&&◌, false≢true}
 use mathlib.Core.Logic.{◌⊎◌, inl, inr}
 use mathlib.Core.List.{List, [], ◌∷◌, ◌++◌, append-nil}
 use lib.Dec.{eqb}
@@ -14,17 +14,16 @@ use native.Mathlib.Nat.{eq-or-lt_of_le, suc-add, zero-add, add-zero}
 use native.Mathlib.Numerals.{add-one}
 use native.Mathlib.Omega.{arith}
 use Rattle.slot_rule.specs.Rule.{base, periods_of, offsets_of}
-use Rattle.std.specs.Prelude.{Option, None, Some, Result, Ok, Err}
-use Rattle.std.specs.Option.{is_some}
+use Rattle.std.specs.Prelude.{Result, Ok, Err, Option, Some, None, is_some}
 use Rattle.std.specs.Result.{result_ok}
 use Rattle.rulings.specs.declared.Refusal.{Refusal}
 use Rattle.rulings.specs.Outcome.{Outcome, accepted, refused, outcome}
 use Rattle.lists.specs.Search.{some_of}
-use Rattle.slot_rule.proofs.Laws.{accepted_when}
 use Rattle.slot_rule.specs.Assign.{assigned}
 use Rattle.slot_rule.specs.Words.{InLimits}
 use Rattle.slot_rule.proofs.Laws.Checks.{good_assigned}
-use Rattle.lists.proofs.Laws.Search.{lt_or_le, first_is, first_skip, first_end, some_when, none_is, below_when, past_when}
+use Rattle.slot_rule.proofs.Laws.{accepted_when}
+use Rattle.lists.proofs.Laws.Search.{some_when, below_when, past_when, lt_or_le, first_is, first_skip, first_end}
 use Rattle.site.specs.declared.Site.{Site}
 use Rattle.site.specs.Sites.{used}
 use Rattle.schedule.specs.Schedule.{kept, gaps_from, gaps_under, rank, assigned_under, base_of, base_under, crowded, first_crowded, entry_assigned, offsets_assigned}
@@ -147,7 +146,7 @@ module _ (parents : List ℕ) (n : ℕ) where
     pub chained_chain : (p : ℕ) → p < 256 → Chain parents next n p (get_or first p 0)
     chained_chain p m = record { head = w.heads p m; leads = λ i l e. rw e at (w.leads i (omega arith) l) }
 
-used_most : (links : ℕ) → used links ≤ 63
+pub used_most : (links : ℕ) → used links ≤ 63
 unfolding used
 used_most links = omega arith
 
@@ -247,37 +246,57 @@ zeros_front xs n z l = rw z (length-take-le n (replicate 63 0) l)
 gaps_number : (wanted : List ℕ) (n : ℕ) (gaps : List ℕ) → GapsOf wanted n gaps → n ≡ length wanted
 gaps_number wanted n gaps g = sym (length-take-le n gaps (omega (arith, g.few, g.long))) ∙ ap length g.are
 
+-- What is accepted is a base from 1 up.
+ok_base : (r : Result ℕ Refusal) (os ps gaps offsets periods : List ℕ) → (outcome r, os, ps) ≡ assigned 2 gaps offsets periods
+    → result_ok r ≡ some_of (base_of (outcome r))
+unfolding base_of
+ok_base (Err r) os ps gaps offsets periods e = refl
+ok_base (Ok b) os ps gaps offsets periods e =
+    let told : (assigned 2 gaps offsets periods).0 ≡ accepted b = sym (ap (λ (t : Outcome ℕ × List ℕ × List ℕ). t.0) e) in
+    some_when b ((accepted_when 2 (omega arith) gaps offsets periods b).0 told).1.0
+
 -- assign_to: the slot rule was lent the gaps and the first n of 63 zeros, twice.
 module _ (s : Site) (p n : ℕ) (gaps zs ys : List ℕ) (g : GapsOf (gaps_under s p) n gaps) (z : zs ≡ replicate 63 0) (y : ys ≡ replicate 63 0) where
   same : assigned 2 (take n gaps) (take n zs) (take n ys) ≡ assigned_under s p
   unfolding assigned_under
   same = rw (z, y, take_replicate n 63 0 g.few, g.are, ← gaps_number (gaps_under s p) n gaps g)
 
-  pub assigned_to : (answer : Result ℕ Refusal) (os ps : List ℕ) → (outcome answer, os, ps) ≡ assigned 2 (take n gaps) (take n zs) (take n ys)
-      → (b : Option ℕ) → b ≡ result_ok answer
+  pub assigned_to : (answer : Outcome ℕ) (os ps : List ℕ) → (answer, os, ps) ≡ assigned 2 (take n gaps) (take n zs) (take n ys)
+      → (b : ℕ) → b ≡ base_of answer
       → length os ≡ length (take n zs) → length ps ≡ length (take n ys)
       → AssignedTo s p b n (os ++ drop n zs) (ps ++ drop n ys)
-  unfolding base_under base_of assigned_under
+  unfolding base_under
   assigned_to answer os ps e b q o k =
       record {
         offsets_long = length_front zs os n o ∙ rw z;
         periods_long = length_front ys ps n k ∙ rw y;
         number = gaps_number (gaps_under s p) n gaps g;
         few = g.few;
-        base = q ∙ answered answer (ap (λ (r : Outcome ℕ × List ℕ × List ℕ). r.0) told);
+        base = q ∙ ap (λ (r : Outcome ℕ × List ℕ × List ℕ). base_of r.0) told;
         offsets = take_at os (drop n zs) n (o ∙ zeros_front zs n z g.few) ∙ ap (λ (r : Outcome ℕ × List ℕ × List ℕ). r.1) told;
         periods = take_at ps (drop n ys) n (k ∙ zeros_front ys n y g.few) ∙ ap (λ (r : Outcome ℕ × List ℕ × List ℕ). r.2) told;
       }
     where
-      told : (outcome answer, os, ps) ≡ assigned_under s p
+      told : (answer, os, ps) ≡ assigned_under s p
       told = e ∙ same
 
-      -- The base of an accepted answer is at least 1.
-      answered : (a : Result ℕ Refusal) → outcome a ≡ (assigned_under s p).0 → result_ok a ≡ some_of (base_under s p)
-      answered (Ok x) h =
-          let fit = ((accepted_when 2 (omega arith) (gaps_under s p) _ _ x).0 (sym h)).1 in
-          rw (← h) (some_when x fit.0)
-      answered (Err r) h = rw (← h)
+  -- The base that the rule answers is what it accepts, and never 0.
+  pub assigned_by : (r : Result ℕ Refusal) (os ps : List ℕ) → (outcome r, os, ps) ≡ assigned 2 (take n gaps) (take n zs) (take n ys)
+      → length os ≡ length (take n zs) → length ps ≡ length (take n ys)
+      → (result_ok r ≡ some_of (base_under s p)) × AssignedTo s p (base_under s p) (length (gaps_under s p)) (os ++ drop n zs) (ps ++ drop n ys)
+  assigned_by r os ps e o k =
+      let a = assigned_to (outcome r) os ps e (base_of (outcome r)) refl o k in (
+        ok_base r os ps _ _ _ e ∙ ap some_of a.base,
+        record {
+          offsets_long = a.offsets_long;
+          periods_long = a.periods_long;
+          number = refl;
+          few = omega (arith, a.number, a.few);
+          base = refl;
+          offsets = ap (λ (m : ℕ). take m (os ++ drop n zs)) (sym a.number) ∙ a.offsets;
+          periods = ap (λ (m : ℕ). take m (ps ++ drop n ys)) (sym a.number) ∙ a.periods;
+        },
+      )
 
 -- The entry of a link, in a list that is assigned under every parent.
 module _ (s : Site) (lists : ℕ → List ℕ) where
@@ -377,10 +396,9 @@ module _ (s : Site) (n : ℕ) (first next : List ℕ) where
     pub assigning_end : n < p → SlotsOf s None os ps
     unfolding first_crowded offsets_assigned periods_assigned
     assigning_end l = record {
-      crowded = past_when (used s.links + 1) _
-          (omega (arith, first_skip _ (used s.links + 1) p (omega arith) d.passed ∙ first_end (crowded s) (used s.links + 1) p (omega arith)));
-      offsets = λ m. entered_end _ _ p os d.offsets (omega (arith, d.all)) (omega (arith, d.all, d.most));
-      periods = λ m. entered_end _ _ p ps d.periods (omega (arith, d.all)) (omega (arith, d.all, d.most));
+      crowded = past_when _ _ (omega (arith, first_skip _ (used s.links + 1) p (omega arith) d.passed ∙ first_end (crowded s) (used s.links + 1) p (omega arith)));
+      offsets = λ m. entered_end _ _ p os d.offsets (omega arith) (omega arith);
+      periods = λ m. entered_end _ _ p ps d.periods (omega arith) (omega arith);
     }
 
     module _ (l : p ≤ n) where
@@ -405,35 +423,27 @@ module _ (s : Site) (n : ℕ) (first next : List ℕ) where
           }
 
       -- With what the slot rule assigns under p.
-      module _ (b : Option ℕ) (m : ℕ) (vs ws : List ℕ) (t : AssignedTo s p b m vs ws) where
-        pub assigning_crowded : get_or first p 0 < n → is_some b ≡ false → SlotsOf s (Some p) os ps
+      module _ (b m : ℕ) (vs ws : List ℕ) (t : AssignedTo s p b m vs ws) where
+        pub assigning_crowded : get_or first p 0 < n → b ≡ 0 → SlotsOf s (Some p) os ps
         unfolding first_crowded crowded
         assigning_crowded some z =
             let k : length (gaps_under s p) ≡ 0 → ⊥ = omega (arith, (child_gap s p (get_or first p 0) (rw d.all at some) (head.child some)).0) in
-            let none : base_under s p ≡ 0 = none_is _ (sym (nothing b z) ∙ t.base) in
-            let here : first_crowded s ≡ p = first_is (crowded s) (used s.links + 1) 0 p (omega arith) (omega (arith, d.all)) (simp (ne_eqb _ _ k, eq-eqb _ _ none)) d.passed in
+            let here = first_is (crowded s) (used s.links + 1) 0 p (omega arith) (omega arith) (simp (ne_eqb _ _ k, eq-eqb _ _ (sym t.base ∙ z))) d.passed in
             record {
-              crowded = rw here (below_when (used s.links + 1) p (omega (arith, d.all)));
-              offsets = λ m. absurd (omega (arith, d.all, here));
-              periods = λ m. absurd (omega (arith, d.all, here));
+              crowded = rw here (below_when _ _ (omega arith));
+              offsets = λ m. absurd (omega (arith, here));
+              periods = λ m. absurd (omega (arith, here));
             }
-          where
-            nothing : (b : Option ℕ) → is_some b ≡ false → b ≡ None
-            nothing None z = refl
-            nothing (Some x) z = cc
 
-        fit : is_some b ≡ true → crowded s p ≡ false
+        fit : (b ≡ 0 → ⊥) → crowded s p ≡ false
         unfolding crowded
         fit f = go (not (eqb (length (gaps_under s p)) 0))
           where
-            some : base_under s p ≡ 0 → ⊥
-            some e = let z : is_some b ≡ false = rw (t.base, e) in cc
-
             go : (x : Bool) → x && eqb (base_under s p) 0 ≡ false
-            go true = ne_eqb _ _ some
+            go true = ne_eqb _ _ (λ e. f (t.base ∙ e))
             go false = refl
 
-        pub assigning_more : is_some b ≡ true → (os' ps' : List ℕ) → Spread s.parents n p vs os os' → Spread s.parents n p ws ps ps'
+        pub assigning_more : (b ≡ 0 → ⊥) → (os' ps' : List ℕ) → Spread s.parents n p vs os os' → Spread s.parents n p ws ps ps'
             → Assigning s n first next (p + 1) os' ps'
         assigning_more fits os' ps' o q = record {
           all = d.all;
@@ -444,6 +454,14 @@ module _ (s : Site) (n : ℕ) (first next : List ℕ) where
           offsets = entered_more _ _ p os d.offsets m vs t.number t.offsets os' (rw d.all at o);
           periods = entered_more _ _ p ps d.periods m ws t.number t.periods ps' (rw d.all at q);
         }
+
+pub base_missing : (k : ℕ) (r : Option ℕ) → r ≡ some_of k → is_some r ≡ false → k ≡ 0
+base_missing zero r e f = refl
+base_missing (suc k) r e f = absurd (false≢true (sym f ∙ rw e))
+
+pub base_given : (k : ℕ) (r : Option ℕ) → r ≡ some_of k → is_some r ≡ true → k ≡ 0 → ⊥
+base_given zero r e f z = false≢true (sym (rw e) ∙ f)
+base_given (suc k) r e f z = absurd (omega arith)
 
 -- What the schedule means. First its lists: as long as those of the site, a link with a parent in the site has the entry of its rank
 -- among those assigned under that parent, and entries not in use are 0.

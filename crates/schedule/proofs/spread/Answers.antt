@@ -1,46 +1,16 @@
-use Prim.Native.Nat.{◌≤◌, ◌<◌}
-use mathlib.Core.Path.{◌≡◌}
-use lib.ListN.{get_or, length-set}
 use native.Mathlib.Omega.{arith}
-use Rattle.schedule.proofs.Laws.Schedule.{handing_start, handing_more}
+use Rattle.schedule.proofs.Laws.Schedule.{used_most, chained_rising, chained_chain, handing_start, handing_more}
 use Rattle.schedule.proofs.spread.Goals as goal
 
 pub loop-i-init : goal.loop-i-init
-loop-i-init c = (
-  c.requires.0,
-  omega arith,
-  c.requires.5,
-  c.requires.6,
-  λ parents p chain. (handing_start _ _ _ _ _ _ _ chain c.requires.5, handing_start _ _ _ _ _ _ _ chain c.requires.6),
-)
-
-pub overflow_cast-i : goal.overflow_cast-i
-overflow_cast-i c =
-    let step : (c.loop-i.i < get_or c.args.next.now c.loop-i.i 0) × (get_or c.args.next.now c.loop-i.i 0 ≤ c.args.links) = c.requires.2.step _ (omega arith) in
-    omega (arith, step.1)
-
-pub loop-i-smaller : goal.loop-i-smaller
-loop-i-smaller c =
-    let step : (c.loop-i.i < get_or c.args.next.now c.loop-i.i 0) × (get_or c.args.next.now c.loop-i.i 0 ≤ c.args.links) = c.requires.2.step _ (omega arith) in
-    omega (arith, step.0)
+loop-i-init c =
+    let chain = chained_chain _ _ _ _ (rw (← c.link_count-links.ensures) at c.requires) c.args.parent (omega arith) in
+    (chain.head.within, omega arith, handing_start _ _ _ _ _ _ _ chain (omega arith))
 
 pub loop-i-preserved : goal.loop-i-preserved
 loop-i-preserved c =
-    let step : (c.loop-i.i < get_or c.args.next.now c.loop-i.i 0) × (get_or c.args.next.now c.loop-i.i 0 ≤ c.args.links) = c.requires.2.step _ (omega arith) in
-    let sofar = c.loop-i.invariant in (
-      step.1,
-      omega (arith, step.0),
-      simp length-set sofar.2,
-      simp length-set sofar.3,
-      λ parents p chain.
-          let handed = sofar.4 parents p chain in (
-            handing_more _ _ _ _ _ _ _ chain _ _ _ handed.0 (omega arith) (omega arith),
-            handing_more _ _ _ _ _ _ _ chain _ _ _ handed.1 (omega arith) (omega arith),
-          ),
-    )
-
-pub returns : goal.returns
-returns c =
-    let end : c.loop-i.i ≡ c.args.links = omega arith in
-    λ parents p chain. rw (← end)
-    ((c.loop-i.invariant.4 parents p chain).0.handed, (c.loop-i.invariant.4 parents p chain).1.handed)
+    let chained = rw (← c.link_count-links.ensures) at c.requires in
+    let chain = chained_chain _ _ _ _ chained c.args.parent (omega arith) in
+    let step = (chained_rising _ _ _ _ chained).step c.loop-i.i c.loop-i-test.true in
+    let sofar = c.loop-i.invariant in
+    (step.1, omega (arith, step.0), handing_more _ _ _ _ _ _ _ chain _ _ _ sofar.2 c.loop-i-test.true (omega (arith, c.link_count-links.ensures, used_most c.args.site.now.links)))

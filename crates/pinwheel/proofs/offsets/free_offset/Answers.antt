@@ -19,14 +19,14 @@ pub search-preserved : goal.search-preserved
 search-preserved c =
     let try = c.earlier.invariant in
     let sent : one (steps_of c.args.dealt.now) (places_of c.args.dealt.now) c.earlier.candidate c.earlier.child-index ≡ true =
-        dealt_sends _ _ _ c.earlier-test.true ∙ sym (rw c.from.ensures at c.sends_in.ensures) ∙ c.if-sends_in.true in
+    dealt_sends _ _ _ c.earlier-test.true ∙ sym (rw c.from.ensures at c.sends_in.ensures) ∙ c.if-sends_in.true in
     try.answer ∙ first_miss _ _ _ try.below (ap not (try.none ∙ any_hit _ _ _ c.earlier-test.true sent))
 
 pub earlier-preserved : goal.earlier-preserved
 earlier-preserved c =
     let try = c.earlier.invariant in
     let silent : one (steps_of c.args.dealt.now) (places_of c.args.dealt.now) c.earlier.candidate c.earlier.child-index ≡ false =
-        dealt_sends _ _ _ c.earlier-test.true ∙ sym (rw c.from.ensures at c.sends_in.ensures) ∙ c.if-sends_in.false in
+    dealt_sends _ _ _ c.earlier-test.true ∙ sym (rw c.from.ensures at c.sends_in.ensures) ∙ c.if-sends_in.false in
     record {
       same = try.same;
       below = try.below;
