@@ -1,85 +1,98 @@
 // Reading a plan: one command after the other, then the judgement of the whole.
 #![tactic(auto)]
 
-ghost use Rattle.std.specs.Prelude.{◌≡◌};
-ghost use Rattle.rulings.specs.Outcome.{ruling, settled};
+ghost use Rattle.std.specs.Prelude.{◌≡◌, ◌<◌, MatchResult};
+ghost use Rattle.rulings.specs.Outcome.{outcome};
 ghost use Rattle.reservations.specs.Reservations.{loads_of};
+ghost use Rattle.site.specs.Sites.{with_flow};
+ghost use Rattle.plan_commands.specs.Commands.{with_node};
 ghost use Rattle.judgement.specs.Judge.{with_site};
 ghost use Rattle.plan_reader.specs.Read.{read_of};
 
+use format::{END, NODE};
 use judgement::Judged;
-use rulings::Verdict;
+use limits::Node;
+use rulings::{Fault, Refusal};
+use site::{Flow, Site};
+
+// 01: nodes are numbered as they come.
+#[tactic(auto, unfolding(plan_commands::specs::Commands::with_node))]
+fn take_node(site: &mut Site, node: Node)
+    requires { site.old.links < 63 }
+    ensures { site.new ≡ with_node site.old node }
+{
+    let i = site.links as usize;
+    site.parents[i] = node.parent;
+    site.capacities[i] = node.capacity;
+    site.gaps[i] = node.gap;
+    site.links += 1;
+}
+
+// The flow is stored in place, where `with_flow` would copy the site.
+#[tactic(auto, unfolding(site::specs::Sites::with_flow))]
+fn take_flow(site: &mut Site, flow: Flow)
+    requires { flow.number < 64 }
+    ensures { site.new ≡ with_flow site.old flow }
+{
+    let n = flow.number as usize;
+    site.states[n] = 1;
+    site.entries[n] = flow.entry;
+    site.rates[n] = flow.rate;
+    site.deadlines[n] = flow.deadline;
+}
 
 // The reading, which fills in the loads of the site's links besides; where it refuses, these stay. `next` is the smallest number that a FLOW may still have,
-// 0 before the first. The judgement is lent the lists of the site that was read, so that the site is not copied for it.
-pub fn read_with(bytes: &[u8], loads: &mut [u32; 63]) -> Judged
-    ensures { ((ruling result.verdict, result.site) ≡ with_site (read_of bytes.now))
-        × (loads.new ≡ settled (ruling result.verdict) (loads_of result.site) loads.old) }
+// 0 before the first.
+pub fn read_with(bytes: &[u8], loads: &mut [u32; 63]) -> Result<Site, Refusal>
+    ensures site { outcome result ≡ read_of bytes.now }
+    ensures loads { MatchResult result (λ s. loads.new ≡ loads_of s) (λ e. loads.new ≡ loads.old) }
 {
-    let mut site = site::empty();
+    let mut site = Site::empty();
     let mut next: u8 = 0;
     let mut at = 0;
     while at < bytes.len() {
-        if bytes[at] == 255 {
+        let tag = bytes[at];
+        if tag == END {
             if plan_commands::more_behind(bytes.len(), at) {
-                return judgement::refusal(10, at + 1);
+                return Err(Fault::BytesBehindEnd.at(at + 1));
             }
-            let mut offsets = [0u16; 63];
-            let mut periods = [0u16; 63];
-            let verdict = judgement::settle(
-                site.links,
-                &site.parents,
-                &site.capacities,
-                &site.gaps,
-                &site.states,
-                &site.entries,
-                &site.rates,
-                &site.deadlines,
-                &mut offsets,
-                &mut periods,
-                loads,
-            );
-            match verdict {
-                Verdict::Accepted => {
-                    site.offsets = offsets;
-                    site.periods = periods;
-                    return Judged { verdict, site };
-                }
-                Verdict::Refused(number, place) => {
-                    return judgement::refusal(number, place);
-                }
+            judgement::settle(&mut site, loads)?;
+            return Ok(site);
+        }
+        if let Err(fault) = plan_commands::judge_command(bytes, at, &site, next) {
+            return Err(fault.at(at));
+        }
+        match tag {
+            NODE => take_node(&mut site, plan_commands::node_at(bytes, at)),
+            _ => {
+                let flow = plan_commands::flow_at(bytes, at);
+                take_flow(&mut site, flow);
+                next = flow.number + 1;
             }
         }
-        let fault = plan_commands::fault_at(bytes, at, site.links, next, &site.parents);
-        if fault != 0 {
-            return judgement::refusal(fault, at);
-        }
-        if bytes[at] == 1 {
-            let node = plan_commands::node_at(bytes, at);
-            let i = site.links as usize;
-            site.parents[i] = node.parent;
-            site.capacities[i] = node.capacity;
-            site.gaps[i] = node.gap;
-            site.links += 1;
-            at += format::size(1);
-        } else {
-            let flow = plan_commands::flow_at(bytes, at);
-            let n = flow.number as usize;
-            site.states[n] = 1;
-            site.entries[n] = flow.entry;
-            site.rates[n] = flow.rate;
-            site.deadlines[n] = flow.deadline;
-            next = flow.number + 1;
-            at += format::size(2);
-        }
+        at += format::size(tag);
     }
-    judgement::refusal(2, bytes.len())
+    Err(Fault::CutOff.at(bytes.len()))
 }
 
-// The site that the bytes stand for, or a refusal with the empty site.
-pub fn read_plan(bytes: &[u8]) -> Judged
-    ensures { (ruling result.verdict, result.site) ≡ with_site (read_of bytes.now) }
+// The site that the bytes stand for.
+pub fn read_site(bytes: &[u8]) -> Result<Site, Refusal>
+    ensures { outcome result ≡ read_of bytes.now }
 {
     let mut loads = [0u32; 63];
     read_with(bytes, &mut loads)
+}
+
+// 01: a refusal comes with the empty site.
+#[tactic(auto, unfolding(judgement::specs::Judge::with_site, rulings::specs::Outcome::or_else))]
+pub fn read_plan(bytes: &[u8]) -> Judged
+    ensures { (outcome result.verdict, result.site) ≡ with_site (read_of bytes.now) }
+{
+    match read_site(bytes) {
+        Ok(site) => Judged {
+            verdict: Ok(()),
+            site,
+        },
+        Err(refusal) => judgement::refused(refusal),
+    }
 }

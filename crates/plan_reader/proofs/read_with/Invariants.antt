@@ -12,7 +12,10 @@ abbrev pub reading : Site → ℕ → Draft
 reading s n = record { site = s; next = n }
 
 abbrev pub invariant-loop-at : goal.invariant-loop-at
-invariant-loop-at l = (l.loads ≡ l.initial.loads) × (read_on plans l.bytes l.at (reading l.site l.next) ≡ decode l.bytes)
+invariant-loop-at l = record {
+  kept : l.loads ≡ l.initial.loads;
+  reads : read_on plans l.bytes l.at (reading l.site l.next) ≡ decode l.bytes;
+}
 
 abbrev pub decreases-loop-at : goal.decreases-loop-at
 decreases-loop-at l = length l.bytes - l.at
