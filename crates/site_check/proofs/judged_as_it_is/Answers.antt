@@ -1,16 +1,20 @@
--- Right because what the judgement gives has the schedule of the site's own nodes, with which both lists are compared.
-use Rattle.site_check.proofs.Laws.Check.{stands_refused, stands_offsets, stands_periods}
-use Rattle.std.proofs.lemmas.Bool.{not_from_true, not_from_false}
+-- Right because the site with its schedule, with which both lists are compared, is what the judgement gives.
+use Rattle.site_check.proofs.Laws.Check.{stands_as}
 use Rattle.site_check.proofs.judged_as_it_is.Goals as goal
+use Rattle.site_check.proofs.judged_as_it_is.Goals.{then-is_ok, else-is_ok}
 
-pub returns-then-not-lists_agree : goal.returns-then-not-lists_agree
-returns-then-not-lists_agree c =
-    stands_offsets _ _ _ c.judge-judged.ensures c.in-Accepted.is _ c.lists_agree.ensures (not_from_false _ c.if-not-lists_agree.true)
+pub returns-then-eq : goal.returns-then-eq
+returns-then-eq c =
+    let all = stands_as c.args.site.now _ _ c.settle.ensures.judged in
+    elim c.if-is_ok.branch [
+      | then-is_ok w ↦ rw (all, ← c.is_ok.ensures.value, w.if-is_ok.true, ← w.eq.ensures, ← w.value-is, c.if-eq.true) c.eq-then-eq.ensures
+      | else-is_ok w ↦ absurd cc
+    ]
 
-pub returns-else-not-lists_agree : goal.returns-else-not-lists_agree
-returns-else-not-lists_agree c =
-    stands_periods _ _ _ c.judge-judged.ensures c.in-Accepted.is _ _ c.lists_agree.ensures (not_from_true _ c.if-not-lists_agree.false)
-    c.lists_agree-in-Accepted.ensures
-
-pub returns-in-Refused : goal.returns-in-Refused
-returns-in-Refused c = stands_refused _ _ _ c.judge-judged.ensures _ _ c.in-Refused.is
+pub returns-else-eq : goal.returns-else-eq
+returns-else-eq c =
+    let all = stands_as c.args.site.now _ _ c.settle.ensures.judged in
+    elim c.if-is_ok.branch [
+      | then-is_ok w ↦ rw (all, ← c.is_ok.ensures.value, w.if-is_ok.true, ← w.eq.ensures, ← w.value-is, c.if-eq.false)
+      | else-is_ok w ↦ rw (all, ← c.is_ok.ensures.value, w.if-is_ok.false, c.if-eq.false)
+    ]
