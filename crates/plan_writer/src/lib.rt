@@ -3,20 +3,23 @@
 
 ghost use Rattle.std.specs.Prelude.{◌≡◌, ◌+◌, ◌≤◌, length};
 ghost use Rattle.std.proofs.lemmas.List.Edits.{sets};
-ghost use Rattle.slices.specs.Written.{writing, written};
+ghost use Rattle.rulings.specs.Outcome.{outcome};
+ghost use Rattle.slices.specs.Written.{written};
 ghost use Rattle.plan_writer.specs.Write.{node_command, node_bytes, flow_command, flow_if_live, plan_bytes};
 ghost use Rattle.lists.specs.Lists.{joined};
 ghost use Rattle.site_check.specs.Check.{written_if};
 
+use format::{END, FLOW, NODE};
+use rulings::{Fault, Refusal};
 use site::Site;
-use slices::Written;
 
 // NODE and FLOW byte by byte; plans that are typed are made of them too.
+#[tactic(auto, unfolding(format::specs::Bytes::bytes_of))]
 pub fn node_command(parent: u8, capacity: u16, gap: u16) -> [u8; 6]
     ensures { result ≡ node_command parent capacity gap }
 {
     [
-        1,
+        NODE,
         parent,
         format::low(capacity),
         format::high(capacity),
@@ -25,11 +28,12 @@ pub fn node_command(parent: u8, capacity: u16, gap: u16) -> [u8; 6]
     ]
 }
 
+#[tactic(auto, unfolding(format::specs::Bytes::bytes_of))]
 pub fn flow_command(number: u8, entry: u8, rate: u8, deadline: u16) -> [u8; 6]
     ensures { result ≡ flow_command number entry rate deadline }
 {
     [
-        2,
+        FLOW,
         number,
         entry,
         rate,
@@ -39,79 +43,70 @@ pub fn flow_command(number: u8, entry: u8, rate: u8, deadline: u16) -> [u8; 6]
 }
 
 // All nodes, from the start on; answers the index after them.
-fn put_nodes(site: Site, out: &mut [u8]) -> usize
-    requires { (site.links ≤ 63) × (length (joined (node_bytes site) site.links 0) ≤ length out.old) }
-    ensures { (out.new ≡ sets out.old 0 (joined (node_bytes site) site.links 0))
-        × (result ≡ length (joined (node_bytes site) site.links 0)) }
+fn put_nodes(site: &Site, out: &mut [u8]) -> usize
+    requires few { site.now.links ≤ 63 }
+    requires room { length (joined (node_bytes site.now) site.now.links 0) ≤ length out.old }
+    ensures bytes { out.new ≡ sets out.old 0 (joined (node_bytes site.now) site.now.links 0) }
+    ensures end { result ≡ length (joined (node_bytes site.now) site.now.links 0) }
 {
-    let n = site.links as usize;
     let mut at = 0;
-    let mut i = 0;
-    while i < n {
+    for i in 0..site.links as usize {
         let command = node_command(site.parents[i], site.capacities[i], site.gaps[i]);
-        slices::put(out, at, &command);
-        at += format::size(1);
-        i += 1;
+        at = slices::put(out, at, &command);
     }
     at
 }
 
 // All live flows, from index `start` on; answers the index after them.
-fn put_flows(site: Site, start: usize, out: &mut [u8]) -> usize
-    requires { start + length (joined (flow_if_live site) 64 0) ≤ length out.old }
-    ensures { (out.new ≡ sets out.old start (joined (flow_if_live site) 64 0))
-        × (result ≡ start + length (joined (flow_if_live site) 64 0)) }
+fn put_flows(site: &Site, start: usize, out: &mut [u8]) -> usize
+    requires { start + length (joined (flow_if_live site.now) 64 0) ≤ length out.old }
+    ensures bytes { out.new ≡ sets out.old start (joined (flow_if_live site.now) 64 0) }
+    ensures end { result ≡ start + length (joined (flow_if_live site.now) 64 0) }
 {
     let mut at = start;
-    let mut n = 0;
-    while n < 64 {
-        if site.states[n] == 1 {
-            let command = flow_command(n as u8, site.entries[n], site.rates[n], site.deadlines[n]);
-            slices::put(out, at, &command);
-            at += format::size(2);
+    for number in 0..64 {
+        if site.is_live(number) {
+            let n = number as usize;
+            let command = flow_command(number, site.entries[n], site.rates[n], site.deadlines[n]);
+            at = slices::put(out, at, &command);
         }
-        n += 1;
     }
     at
 }
 
-// The slice is judged before anything is stored, so the flows are measured first.
-fn flows_size(site: Site) -> usize
-    ensures { result ≡ length (joined (flow_if_live site) 64 0) }
+// How many bytes the plan has.
+#[tactic(auto, using(site::proofs::Laws::Flows::flows_few, crate::proofs::Laws::Write::plan_sized), unfolding(format::specs::Commands::size_of))]
+fn plan_size(site: &Site) -> usize
+    requires { site.now.links ≤ 63 }
+    ensures { result ≡ length (plan_bytes site.now) }
 {
-    let mut size = 0;
-    let mut n = 0;
-    while n < 64 {
-        if site.states[n] == 1 {
-            size += format::size(2);
-        }
-        n += 1;
-    }
-    size
+    let nodes = format::size(NODE) * site.links as usize;
+    let flows = format::size(FLOW) * site.flow_count() as usize;
+    nodes + flows + 1
 }
 
-// The plan of a site that passed the other checks.
-fn put_plan(site: Site, out: &mut [u8]) -> Written
-    requires { site.links ≤ 63 }
-    ensures { (writing result, out.new) ≡ written (plan_bytes site) out.old }
+// The plan of a site that passed the other checks. The slice is judged before anything is stored.
+fn put_plan(site: &Site, out: &mut [u8]) -> Result<usize, Refusal>
+    requires { site.now.links ≤ 63 }
+    ensures { (outcome result, out.new) ≡ written (plan_bytes site.now) out.old }
 {
-    let nodes = format::size(1) * site.links as usize;
-    let size = nodes + flows_size(site) + 1;
+    let size = plan_size(site);
     if out.len() < size {
-        return Written::Refused(1, 0);
+        return Err(Fault::WrongLength.at(0));
     }
     let start = put_nodes(site, out);
     let end = put_flows(site, start, out);
-    out[end] = 255;
-    Written::Length(size)
+    out[end] = END;
+    Ok(size)
 }
 
 // 01: a writer asks 14 first and judges the slice last.
-pub fn write_plan(site: Site, out: &mut [u8]) -> Written
-    ensures { (writing result, out.new) ≡ written_if site (plan_bytes site) out.old }
+#[tactic(auto, using(site_check::proofs::Laws::Check::passes_few), unfolding(slices::specs::Written::handed))]
+pub fn write_plan(site: Site, out: &mut [u8]) -> Result<usize, Refusal>
+    ensures { (outcome result, out.new) ≡ written_if site (plan_bytes site) out.old }
 {
-    if !site_check::passes(site) {
-        return Written::Refused(14, 0);
+    if !site_check::passes(&site) {
+        return Err(Fault::NoSite.at(0));
     }
-    put_plan(site, out)
+    put_plan(&site, out)
 }

@@ -1,12 +1,10 @@
 -- The plan of a site with a flow more or a flow less: it is the old plan with the six bytes of that FLOW put in or left out at their place.
-use Prim.Native.Nat.{ℕ, zero, suc, ◌+◌, ◌-◌, ◌*◌, ◌≤◌}
-use mathlib.Core.Path.{◌≡◌, refl, sym, ◌∙◌, ap}
-use mathlib.Core.Bool.{Bool, true, false, cond}
+use Prim.Native.Nat.{ℕ, ◌+◌, ◌-◌, ◌*◌, ◌≤◌}
+use mathlib.Core.Path.{◌≡◌, ◌∙◌, ap}
+use mathlib.Core.Bool.{true, false}
 use mathlib.Core.List.{◌++◌, append_assoc}
 use lib.ListN.{length, take, drop, length-append}
 use lib.Seq.{get_or-set_same, get_or-set_other, take-append_seam, drop-append_seam, drop-append-add, drop_at}
-use native.Mathlib.Numerals.{add-one}
-use native.Mathlib.Nat.{mul-add}
 use native.Mathlib.Omega.{arith}
 use Rattle.site.specs.declared.Site.{Site}
 use Rattle.site.specs.declared.Flow.{Flow}
@@ -15,10 +13,10 @@ use Rattle.site.proofs.Laws.Flows.{live_here, live_with, Counted}
 use Rattle.site_check.specs.Words.{Shape}
 use Rattle.format.specs.Bytes.{bytes_of}
 use Rattle.format.specs.Commands.{size_of}
-use Rattle.lists.specs.Lists.{joined, sum_to}
-use Rattle.lists.proofs.Laws.Items.{joined_at, joined_same, joined_more}
+use Rattle.lists.specs.Lists.{joined}
+use Rattle.lists.proofs.Laws.Items.{joined_at, joined_same}
 use Rattle.plan_writer.specs.Write.{node_bytes, flow_command, flow_bytes, flow_if_live, command_bytes, plan_bytes, bytes_before, bytes_behind, flow_place}
-use Rattle.plan_writer.proofs.Laws.Write.{nodes_size, flow_size}
+use Rattle.plan_writer.proofs.Laws.Write.{nodes_size, flow_size, flows_below}
 
 -- The bytes of the plan, taken apart at number n.
 pub plan_parts : (s : Site) (n : ℕ) → n ≤ 63 → plan_bytes s ≡ bytes_before s n ++ (flow_if_live s n ++ bytes_behind s n)
@@ -115,21 +113,8 @@ module _ (s : Site) (shape : Shape s) where
       plan_without n few
       ∙ rw (old, take-append_seam (bytes_before s n), drop-append-add (bytes_before s n), behind)
 
--- The place of a number goes by the links and the live flows below.
-flows_below_lem : (s : Site) (n : ℕ) → length (joined (flow_if_live s) n 0) ≡ size_of 2 * sum_to (λ m. cond (live s m) 1 0) n
-unfolding joined sum_to flow_if_live
-flows_below_lem s zero = omega arith
-flows_below_lem s (suc n) =
-    ap (λ (k : ℕ). length (joined (flow_if_live s) k 0)) (sym (add-one n)) ∙ ap length (joined_more (flow_if_live s) n)
-    ∙ length-append (joined (flow_if_live s) n 0) (flow_if_live s n) ∙ go (live s n) refl (flows_below_lem s n)
-  where
-    go : (t : Bool) → live s n ≡ t → length (joined (flow_if_live s) n 0) ≡ size_of 2 * sum_to (λ m. cond (live s m) 1 0) n
-        → length (joined (flow_if_live s) n 0) + length (flow_if_live s n) ≡ size_of 2 * (sum_to (λ m. cond (live s m) 1 0) n + cond (live s n) 1 0)
-    go true e below = rw (below, e, flow_size s n, mul-add) (omega arith)
-    go false e below = rw (below, e, mul-add) (omega arith)
-
--- node and flow stand for the sizes of the two commands.
+-- The place of a number goes by the links and the live flows below: node and flow stand for the sizes of the two commands.
 pub place_counted : (s : Site) (n count node flow : ℕ) → node ≡ size_of 1 → flow ≡ size_of 2 → Counted s n count → node * s.links + flow * count ≡ flow_place s n
 unfolding flow_place
 place_counted s n count node flow p q c =
-    rw (length-append (joined (node_bytes s) s.links 0) (joined (flow_if_live s) n 0), ← nodes_size s node p, flows_below_lem s n, q, c.is)
+    rw (length-append (joined (node_bytes s) s.links 0) (joined (flow_if_live s) n 0), ← nodes_size s node p, flows_below s n, q, c.is)

@@ -6,15 +6,20 @@ use mathlib.Core.List.{List, [], ◌∷◌, ◌++◌}
 use lib.ListN.{length, get_or, set, length-append}
 use lib.Seq.{sets}
 use borrow.Author.Tests.{ne_eqb}
-use native.Mathlib.Nat.{zero-add}
+use native.Mathlib.Numerals.{add-one}
+use native.Mathlib.Nat.{zero-add, mul-add}
 use native.Mathlib.Omega.{arith}
 use Rattle.site.specs.declared.Site.{Site}
-use Rattle.site.specs.Sites.{live}
+use Rattle.site.specs.Sites.{live, flow_count}
+use Rattle.site.proofs.Laws.Flows.{flows_few}
 use Rattle.format.specs.Bytes.{bytes_of}
 use Rattle.format.specs.Commands.{size_of}
 use Rattle.plan_writer.specs.Write.{node_command, node_bytes, flow_command, flow_bytes, flow_if_live, command_bytes, plan_bytes}
-use Rattle.lists.specs.Lists.{joined}
-use Rattle.slices.proofs.Laws.Stores.{sets_append, Passed, passed_room, passed_more, sized_each}
+use Rattle.lists.specs.Lists.{joined, sum_to}
+use Rattle.lists.proofs.Laws.Items.{joined_more}
+use Rattle.slices.specs.Put.{put}
+use Rattle.slices.proofs.Laws.Put.{put_room, put_sets}
+use Rattle.slices.proofs.Laws.Stores.{sets_append, Stored, stored_more, stored_room, sized_each}
 
 -- A command of the own entries of a site or a schedule.
 pub node_made : (s : Site) (i : ℕ) → node_command (get_or s.parents i 0) (get_or s.capacities i 0) (get_or s.gaps i 0) ≡ node_bytes s i
@@ -44,38 +49,31 @@ module _ (s : Site) (n : ℕ) where
   unfolding flow_if_live live
   idle_bytes e = simp (ne_eqb _ _ e)
 
-  pub live_size : get_or s.states n 0 ≡ 1 → length (flow_if_live s n) ≡ size_of 2
-  live_size e = sym (ap length (live_bytes e)) ∙ flow_size s n
+-- The flows below a number take a FLOW each that is live.
+pub flows_below : (s : Site) (n : ℕ) → length (joined (flow_if_live s) n 0) ≡ size_of 2 * sum_to (λ m. cond (live s m) 1 0) n
+unfolding joined sum_to flow_if_live
+flows_below s zero = omega arith
+flows_below s (suc n) =
+    ap (λ (k : ℕ). length (joined (flow_if_live s) k 0)) (sym (add-one n)) ∙ ap length (joined_more (flow_if_live s) n)
+    ∙ length-append (joined (flow_if_live s) n 0) (flow_if_live s n) ∙ go (live s n) refl (flows_below s n)
+  where
+    go : (t : Bool) → live s n ≡ t → length (joined (flow_if_live s) n 0) ≡ size_of 2 * sum_to (λ m. cond (live s m) 1 0) n
+        → length (joined (flow_if_live s) n 0) + length (flow_if_live s n) ≡ size_of 2 * (sum_to (λ m. cond (live s m) 1 0) n + cond (live s n) 1 0)
+    go true e below = rw (below, e, flow_size s n, mul-add) (omega arith)
+    go false e below = rw (below, e, mul-add) (omega arith)
 
-  module _ (start at : ℕ) (p : Passed (flow_if_live s) 64 start n at) (l : n < 64) where
-    -- A live flow fits where all fit.
-    pub live_room : get_or s.states n 0 ≡ 1 → at + size_of 2 ≤ start + length (joined (flow_if_live s) 64 0)
-    live_room e = omega (arith, passed_room (flow_if_live s) 64 start n at p l, live_size e)
+-- The next item, put where the ones before it end.
+module _ (bytes : ℕ → List ℕ) (n start : ℕ) (d : List ℕ) (room : start + length (joined bytes n 0) ≤ length d) where
+  pub stored_put : (i at : ℕ) (out : List ℕ) → Stored bytes n start d i at out → i < n → (b : List ℕ) → b ≡ bytes i
+      → (m : ℕ) (new : List ℕ) → (m, new) ≡ put (at, out) b → Stored bytes n start d (i + 1) m new
+  stored_put i at out s l b e m new q =
+      let fits : at + length b ≤ length out = omega (arith, s.long, stored_room bytes n start d i at out s b l e) in
+      stored_more bytes n start d i at out s b new m l e (put_sets at m out b new fits q)
+      (ap (λ (p : ℕ × List ℕ). p.0) (q ∙ put_room at out b fits))
 
-    pub passed_live : (m : ℕ) → get_or s.states n 0 ≡ 1 → m ≡ at + size_of 2 → Passed (flow_if_live s) 64 start (n + 1) m
-    passed_live m e q = passed_more (flow_if_live s) 64 start n at p m l (omega (arith, q, live_size e))
-
-    pub passed_idle : (m : ℕ) → (get_or s.states n 0 ≡ 1 → ⊥) → m ≡ at → Passed (flow_if_live s) 64 start (n + 1) m
-    passed_idle m e q = passed_more (flow_if_live s) 64 start n at p m l (omega (arith, q, ap length (idle_bytes e)))
-
-  flow_few : length (flow_if_live s n) ≤ size_of 2
-  unfolding flow_if_live
-  flow_few = go (live s n)
-    where
-      go : (t : Bool) → length (cond t (flow_bytes s n) []) ≤ size_of 2
-      go true = omega (arith, flow_size s n)
-      go false = omega arith
-
-flows_from : (s : Site) (r n : ℕ) → length (joined (flow_if_live s) r n) ≤ size_of 2 * r
-unfolding joined size_of
-flows_from s zero n = omega arith
-flows_from s (suc r) n =
-    omega (arith, length-append (flow_if_live s n) (joined (flow_if_live s) r (n + 1)), flow_few s n, flows_from s r (n + 1))
-
--- So the flows take 384 bytes at most.
-pub flows_few : (s : Site) → length (joined (flow_if_live s) 64 0) ≤ 384
-unfolding size_of
-flows_few s = flows_from s 64 0
+  -- A number that has no bytes is passed by.
+  pub stored_none : (i at : ℕ) (out : List ℕ) → Stored bytes n start d i at out → i < n → [] ≡ bytes i → Stored bytes n start d (i + 1) at out
+  stored_none i at out s l e = stored_more bytes n start d i at out s [] out at l e refl (omega arith)
 
 -- A plan: nodes, flows, FF.
 module _ (s : Site) where
@@ -85,18 +83,22 @@ module _ (s : Site) where
   abbrev flows : List ℕ
   flows = joined (flow_if_live s) 64 0
 
+  pub plan_length : length (plan_bytes s) ≡ length nodes + length flows + 1
+  unfolding plan_bytes command_bytes
+  plan_length = simp length-append
+
   -- m stands for the size of a NODE.
-  module _ (m : ℕ) (is : m ≡ size_of 1) where
-    pub nodes_size : m * s.links ≡ length nodes
-    nodes_size = rw is (sym (sized_each (node_bytes s) (size_of 1) (node_size s) s.links 0))
+  pub nodes_size : (m : ℕ) → m ≡ size_of 1 → m * s.links ≡ length nodes
+  nodes_size m is = rw is (sym (sized_each (node_bytes s) (size_of 1) (node_size s) s.links 0))
 
-    pub nodes_few : s.links ≤ 63 → m * s.links ≤ 378
-    unfolding size_of
-    nodes_few few = rw is (omega arith)
+  -- So the plan has as many bytes as its commands take together, and END.
+  pub plan_sized : length (plan_bytes s) ≡ size_of 1 * s.links + size_of 2 * flow_count s + 1
+  unfolding flow_count
+  plan_sized = omega (arith, plan_length, nodes_size (size_of 1) refl, flows_below s 64)
 
-    pub plan_size : (f : ℕ) → f ≡ length flows → m * s.links + f + 1 ≡ length (plan_bytes s)
-    unfolding plan_bytes command_bytes
-    plan_size f e = simp (length-append, ← nodes_size) (omega arith)
+  pub plan_most : s.links ≤ 63 → length (plan_bytes s) ≤ 763
+  unfolding size_of
+  plan_most few = omega (arith, plan_sized, flows_few s)
 
   pub plan_stored : (out a b : List ℕ) (start end : ℕ) → a ≡ sets out 0 nodes → start ≡ length nodes → b ≡ sets a start flows
       → end ≡ start + length flows → set b end 255 ≡ sets out 0 (plan_bytes s)
