@@ -57,7 +57,7 @@ admits_when s counters f = (
         room = (route_room s f).0 (eqb-true _ _ (not-false _ d.0));
         time = ltb-false _ _ g.0;
       },
-  λ w. sym (call_passes s counters _ refl _ ((call_when s counters).1 (w.counted, w.sound)) _
+  λ w. sym (call_passes s counters _ (sym ((call_when s counters).1 (w.counted, w.sound))) _
       (flow_passes (unfit_link s f) s f _ refl ((flow_good s.links 0 f).1 w.good) _ refl w.free _ refl ((route_room s f).1 w.room) _ refl w.time)),
 )
 
@@ -84,7 +84,7 @@ releases_when s counters n = (
       let c = past (not (live s n)) 16 n _ b.1 in
       let call = (call_when s counters).0 a.0 in
       record { counted = call.0; sound = call.1; few = ltb-false _ _ b.0; living = not-false _ c.0 },
-  λ w. sym (call_passes s counters _ refl _ ((call_when s counters).1 (w.counted, w.sound)) _ (number_passes s n w.few (live s n) refl (rw w.living))),
+  λ w. sym (call_passes s counters _ (sym ((call_when s counters).1 (w.counted, w.sound))) _ (number_passes s n w.few (live s n) refl (rw w.living))),
 )
 
 pub released_cells : (s : Site) (counters : List ℕ) (n : ℕ) → release_ruling s counters n ≡ accepted tt → 9 * n + 9 ≤ length counters

@@ -1,50 +1,31 @@
--- One law for each answer of the functions that judge a call, and for what an accepted call does to the counters.
+-- What a call that is lent counters answers and leaves, whatever its own checks are.
 use Prim.Native.Nat.{ℕ, ◌+◌, ◌*◌, ◌≤◌}
 use mathlib.Core.Path.{◌≡◌, sym, ◌∙◌}
 use mathlib.Core.List.{List}
 use lib.ListN.{length}
 use borrow.Author.Tests.{le-leb}
-use Rattle.rulings.specs.Outcome.{Ruling, accepted, refused, checked, settled, ruling}
-use Rattle.rulings.proofs.Laws.Outcomes.{checked_pass, checked_fail}
+use Rattle.rulings.specs.Outcome.{Ruling, accepted, refused, checked, settled}
+use Rattle.rulings.proofs.Laws.Outcomes.{checked_pass}
 use Rattle.site.specs.declared.Site.{Site}
-use Rattle.rulings.specs.declared.Verdict.{Verdict}
-use Rattle.rulings.specs.declared.Verdict.TheVariants.{Accepted, Refused}
 use Rattle.site_check.specs.Check.{call_fault}
 use Rattle.counters.specs.Blocks.{with_cells, zeros, cleared}
 use Rattle.admission.specs.Calls.{change}
 
--- 1 and 14 before other checks: `call` is what the callee answers.
-module _ (s : Site) (cs : List ℕ) (call : ℕ) (calls : call ≡ call_fault s cs) (others : Ruling) where
-  pub call_fails : (call ≡ 0 → ⊥) → refused call 0 ≡ checked (call_fault s cs) others
-  call_fails n = rw (← calls) (sym (checked_fail call _ n))
+-- 1 and 14 before other checks.
+module _ (s : Site) (cs : List ℕ) (others : Ruling) where
+  pub call_passes : 0 ≡ call_fault s cs → (r : Ruling) → r ≡ others → r ≡ checked (call_fault s cs) others
+  call_passes passed r e = e ∙ sym (checked_pass _ _ (sym passed))
 
-  pub call_passes : call ≡ 0 → (r : Ruling) → r ≡ others → r ≡ checked (call_fault s cs) others
-  call_passes passed r e = e ∙ rw (← calls) (sym (checked_pass call _ passed))
-
--- What becomes of the counters by the verdict.
-module _ (v : Verdict) (n : ℕ) (cs : List ℕ) where
-  pub clear_accepted : (ds : List ℕ) → v ≡ Accepted → ds ≡ cleared n cs → ds ≡ settled (ruling v) (cleared n cs) cs
-  unfolding settled
-  clear_accepted ds e q = rw e q
-
-  pub clear_refused : (number place : ℕ) → v ≡ Refused number place → cs ≡ settled (ruling v) (cleared n cs) cs
-  unfolding settled
-  clear_refused number place e = rw e
-
--- What a call answers and leaves by the verdict.
-module _ (v : Verdict) (r : Ruling) (rules : ruling v ≡ r) (next s : Site) (n : ℕ) (cs ds : List ℕ) (cells : ds ≡ settled (ruling v) (cleared n cs) cs) where
-  pub call_accepted : (t : Site) → v ≡ Accepted → t ≡ next → (r ≡ accepted tt → 9 * n + 9 ≤ length cs)
-      → (ruling v, t, ds) ≡ change r next s (with_cells n (zeros 9) cs) cs
-  unfolding settled change cleared
-  call_accepted t e q room =
-      let a : accepted tt ≡ r = rw e at rules in
+-- What a call leaves by its ruling.
+module _ (r : Ruling) (next s : Site) where
+  pub call_accepted : (n : ℕ) (cs : List ℕ) → accepted tt ≡ r → (t : Site) (ds : List ℕ) → t ≡ next → ds ≡ cleared n cs
+      → (r ≡ accepted tt → 9 * n + 9 ≤ length cs) → (accepted tt, t, ds) ≡ change r next s (with_cells n (zeros 9) cs) cs
+  unfolding change cleared settled
+  call_accepted n cs a t ds q k room =
       let fits = room (sym a) in
-      let k : ds ≡ with_cells n (zeros 9) cs = rw (e, le-leb _ _ fits) at cells in
-      rw (k, q, e, ← a)
+      let c : ds ≡ with_cells n (zeros 9) cs = rw (le-leb _ _ fits) at k in
+      rw (c, q, ← a)
 
-  pub call_refused : (number place : ℕ) → v ≡ Refused number place → (refused number place, s, ds) ≡ change r next s (with_cells n (zeros 9) cs) cs
-  unfolding settled change
-  call_refused number place e =
-      let k : ds ≡ cs = rw e at cells in
-      let a : refused number place ≡ r = rw e at rules in
-      rw (k, ← a)
+  pub call_refused : (number place : ℕ) → refused number place ≡ r → (new cs : List ℕ) → (refused number place, s, cs) ≡ change r next s new cs
+  unfolding change settled
+  call_refused number place a new cs = rw (← a)
