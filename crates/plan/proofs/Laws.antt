@@ -51,7 +51,7 @@ use Rattle.plan_writer.specs.Write.{node_bytes, flow_if_live, command_bytes, pla
 use Rattle.schedule_writer.specs.Write.{link_bytes, schedule_of, schedule_bytes, schedule_written}
 use Rattle.slices.specs.Written.{written, handed}
 use Rattle.slices.proofs.Laws.{written_accepted, written_refused}
-use Rattle.plan_writer.proofs.Laws.Write.{plan_size, nodes_few, flows_few, idle_bytes}
+use Rattle.plan_writer.proofs.Laws.Write.{plan_most, idle_bytes}
 use Rattle.plan.specs.Words.{InForm, Begun, FormFails, no_end, command, more}
 use Rattle.plan.specs.ScheduleWords.{ScheduleInForm, ScheduleBegun, ScheduleFails}
 use Rattle.plan.specs.Former.{former_form, former_read, FormerlyCarried, FormerlyPunctual}
@@ -144,8 +144,7 @@ pub plan_made : (s : Site) (out new : List ℕ) (size : ℕ) → written_if s (p
 plan_made s out new size e = made (passes_of s) (plan_bytes s) out new size (λ plan. read_of plan ≡ accepted s) (λ t. (written_read s t).1) e
 
 pub plan_short : (s : Site) → passes_of s ≡ true → length (plan_bytes s) ≤ 763
-plan_short s e =
-    omega (arith, plan_size s (size_of 1) refl _ refl, nodes_few s (size_of 1) refl ((passes_parts s).0 e).0.few, flows_few s)
+plan_short s e = plan_most s ((passes_parts s).0 e).0.few
 
 -- No two byte strings read to one site.
 pub read_once : (bytes others : List ℕ) (s : Site) → Bytes bytes → Bytes others → read_of bytes ≡ accepted s → read_of others ≡ accepted s → bytes ≡ others

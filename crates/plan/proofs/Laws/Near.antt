@@ -22,7 +22,7 @@ use Rattle.plan_reader.specs.Read.{judge_form, read_of}
 use Rattle.plan_writer.specs.Write.{command_bytes, plan_bytes}
 use Rattle.schedule_check.specs.declared.Schedule.{Schedule}
 use Rattle.schedule_reader.specs.Read.{schedule_read}
-use Rattle.plan_writer.proofs.Laws.Write.{plan_size, nodes_few, flows_few}
+use Rattle.plan_writer.proofs.Laws.Write.{plan_most}
 use Rattle.schedule_writer.proofs.Laws.Write.{links_size, links_few}
 use Rattle.plan.specs.Words.{Begun, FormFails, no_end, command, more}
 use Rattle.plan.specs.ScheduleWords.{ScheduleBegun, ScheduleFails}
@@ -74,7 +74,7 @@ unfolding plan_bytes
 begun_near bytes at s w =
     let long : length (command_bytes s) ≡ at = sym (ap length w.are) ∙ length-take-le at bytes w.within in
     let all : length (plan_bytes s) ≡ length (command_bytes s) + 1 = simp length-append refl in
-    omega (arith, plan_size s (size_of 1) refl _ refl, nodes_few s (size_of 1) refl w.formed.few, flows_few s)
+    omega (arith, plan_most s w.formed.few)
 
 form_near : (bytes : List ℕ) (number place : ℕ) → FormFails bytes number place → (1 ≤ number) × (place ≤ 763)
 form_near bytes number place (no_end s w e n) = (omega arith, omega (arith, begun_near bytes place s w))
