@@ -7,13 +7,6 @@ use Rattle.site.specs.Sites.{used}
 use Rattle.tree.specs.Tree.{of_link}
 use Rattle.schedule.specs.Schedule.{link_sends}
 use Rattle.site_check.specs.Check.{passes_of}
-use Rattle.sender.specs.declared.Lookup.{Lookup}
-use Rattle.sender.specs.declared.Lookup.TheVariants.{Child, Refused}
-
--- What each case of a lookup's answer says in the terms of 01's tables: the child or 0, or the number and the place of a refusal.
-abbrev pub found : Lookup → Outcome ℕ
-found (Child n) = accepted n
-found (Refused number place) = refused number place
 
 -- Node n is a child of p and sends in slot t.
 unfoldable pub child_sends : Site → ℕ → ℕ → ℕ → Bool

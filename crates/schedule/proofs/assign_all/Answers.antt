@@ -4,7 +4,7 @@ use Rattle.schedule.proofs.assign_all.Goals as goal
 
 pub loop-parent-init : goal.loop-parent-init
 loop-parent-init c =
-    rw (c.zeros.ensures, c.zeros-2.ensures) (assigning_start _ _ _ _ c.link_count-links.ensures (rw (← c.link_count-links.ensures) at c.chains_of-chains.ensures))
+    assigning_start _ _ _ _ c.link_count-links.ensures (rw (← c.link_count-links.ensures) at c.chains_of-chains.ensures)
 
 pub loop-parent-preserved-then-links-chains : goal.loop-parent-preserved-then-links-chains
 loop-parent-preserved-then-links-chains c = assigning_none _ _ _ _ _ _ _ c.loop-parent.invariant c.loop-parent-test.true c.if-links-chains.true

@@ -5,7 +5,7 @@ use mathlib.Core.Bool.{Bool, true, false, not}
 use lib.ListN.{get_or}
 use borrow.Author.Tests.{lt-ltb, le-ltb, le-leb, eq-eqb, ne_eqb}
 use native.Mathlib.Omega.{arith}
-use Rattle.rulings.specs.Outcome.{Outcome, accepted, refused}
+use Rattle.rulings.specs.Outcome.{Outcome, accepted}
 use Rattle.lists.specs.Search.{last}
 use Rattle.slot_rule.specs.Rule.{sends}
 use Rattle.lists.proofs.Laws.Search.{last_hit, last_miss}
@@ -60,19 +60,11 @@ module _ (s : Site) (p t n : ℕ) (w : Looking s p t n) where
 
 -- The answers of a lookup.
 module _ (s : Site) (p t : ℕ) where
-  pub lookup_parent : s.links < p → refused 6 0 ≡ lookup_of s p t
-  unfolding lookup_of
-  lookup_parent l = rw (lt-ltb _ _ l)
-
   pub lookup_found : (c : ℕ) → p ≤ s.links → c ≡ sending_child s p t → accepted c ≡ lookup_of s p t
   unfolding lookup_of
   lookup_found c l q = rw (le-ltb _ _ l, q)
 
   module _ (b : Bool) (e : b ≡ passes_of s) where
-    pub sender_site : not b ≡ true → refused 14 0 ≡ sender_of s p t
-    unfolding sender_of
-    sender_site n = rw (← e, n)
-
     pub sender_passes : not b ≡ false → (o : Outcome ℕ) → o ≡ lookup_of s p t → o ≡ sender_of s p t
     unfolding sender_of
     sender_passes n o q = q ∙ rw (← e, n)
