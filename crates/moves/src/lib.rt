@@ -59,7 +59,8 @@ fn move_packets(cells: &mut [u32], site: &Site, sending: &[u16; 63], flow: usize
         }
         let queue = cells[k];
         let whole = queue + coming;
-        let width = rate * u32::from(tree::value_of(sending, node));
+        let period = u32::from(tree::value_of(sending, node));
+        let width = rate * period;
         let moved = queue.min(width);
         cells[k] = whole - moved;
         coming = moved;

@@ -18,7 +18,8 @@ use Rattle.site.specs.declared.Site.{Site}
 use Rattle.site.specs.Sites.{live}
 use Rattle.site_check.specs.Check.{passes_of, call_fault}
 use Rattle.site_check.specs.Words.{Sound}
-use Rattle.site_check.proofs.Laws.{call_when, call_first}
+use Rattle.site_check.proofs.Laws.{call_when, call_first, passes_sound}
+use Rattle.simulation.proofs.Laws.Answers.{slot_unlisted, slot_call}
 use Rattle.rulings.proofs.Laws.Choices.{not_when}
 use Rattle.counters.specs.Blocks.{cells_of, zeros}
 use Rattle.counters.proofs.Laws.{block_zeros}
@@ -63,8 +64,8 @@ slots_when s cs xs = (
         expected = λ n l off. let z = ltb-false 0 (get_or xs n 0) (rw off at ((first_none (unexpected s xs) 64).0 (ltb-false _ _ d.0) n l)) in omega arith;
       },
   λ w. rw (eq-eqb _ _ w.listed, (call_when s cs).1 (w.counted, w.sound), checked_pass 0 _ refl)
-      (sym (arrivals_pass s cs xs (first_overflow s cs xs) refl
-      ((first_none (overflows s cs xs) 64).1 (λ n l. fit w n l (live s n) refl)) (first_unexpected s xs) refl
+      (sym (arrivals_pass s cs xs
+      ((first_none (overflows s cs xs) 64).1 (λ n l. fit w n l (live s n) refl))
       ((first_none (unexpected s xs) 64).1 (λ n l. known w n l (live s n) refl)))),
 )
   where
@@ -121,3 +122,10 @@ slot_advances v s cs xs t e = rw e (go (eqb (length cs) 576))
         (joined (cells_after v s cs xs t) 64 0) cs
     go true = refl
     go false = refl
+
+-- So is a slot that passes the checks of a call.
+pub slot_done : (v : Service) (s : Site) (cs xs : List ℕ) (t : ℕ) → 0 ≡ call_fault s cs → advance_of v s cs xs t ≡ slot_of v s cs xs t
+slot_done v s cs xs t calls = sym (slot_advances v s cs xs t ((passes_sound s).1 ((call_when s cs).0 (sym calls)).1))
+
+-- What `slot` is proved by.
+pub ruleset slot_rules = (slot_unlisted, slot_call, slot_done)

@@ -9,7 +9,7 @@ loop-k-init c = moving_start _ _ _ c.args.arrival _ _ c.args.cells.now c.require
 pub loop-k-preserved : goal.loop-k-preserved
 loop-k-preserved c =
     moving_more _ _ _ _ _ _ _ _ c.loop-k.invariant _ c.parent_of-parent.ensures (search rules) c.if-node-parent.false _
-    (moved_in _ _ _ _ c.from-rate.result c.value_of.result _ (omega arith) c.value_of.ensures c.min-moved.ensures)
+    (moved_in _ _ _ _ c.from-rate.result c.from-period.result _ (omega arith) (omega arith) c.min-moved.ensures)
 
 pub returns-then-node-parent : goal.returns-then-node-parent
 returns-then-node-parent c = moving_end _ _ _ _ _ _ _ _ c.loop-k.invariant _ c.parent_of-parent.ensures (search rules) c.if-node-parent.true
