@@ -9,7 +9,6 @@ use native.Mathlib.Omega.{arith}
 use Rattle.format.specs.Bytes.{bytes_of}
 use Rattle.format.specs.Commands.{schedule_size}
 use Rattle.schedule_check.specs.declared.Schedule.{Schedule}
-use Rattle.schedule_check.specs.Schedules.{of_lists}
 use Rattle.schedule_writer.specs.Write.{link_command, link_bytes, schedule_bytes}
 use Rattle.lists.specs.Lists.{joined}
 use Rattle.slices.proofs.Laws.Stores.{sets_append, sized_each}
@@ -36,21 +35,21 @@ module _ (s : Schedule) (m : ℕ) (is : m ≡ schedule_size 17) where
   schedule_size_lem = simp (length-append, ← links_size)
 
 -- A schedule: links, FF.
-module _ (n : ℕ) (offsets periods : List ℕ) where
-  pub links_long : length (joined (link_bytes (of_lists n offsets periods)) n 0) ≡ 6 * n
+module _ (s : Schedule) where
+  pub links_long : length (joined (link_bytes s) s.links 0) ≡ 6 * s.links
   unfolding schedule_size
-  links_long = sym (links_size (of_lists n offsets periods) 6 refl)
+  links_long = sym (links_size s 6 refl)
 
-  pub schedule_long : length (schedule_bytes (of_lists n offsets periods)) ≡ 6 * n + 1
+  pub schedule_long : length (schedule_bytes s) ≡ 6 * s.links + 1
   unfolding schedule_size
-  schedule_long = sym (schedule_size_lem (of_lists n offsets periods) 6 refl)
+  schedule_long = sym (schedule_size_lem s 6 refl)
 
-  pub schedule_stored : (out a : List ℕ) (end : ℕ) → 6 * n + 1 ≤ length out → a ≡ sets out 0 (joined (link_bytes (of_lists n offsets periods)) n 0) → end ≡ 6 * n
-      → set a end 255 ≡ schedule_bytes (of_lists n offsets periods) ++ drop (6 * n + 1) out
+  pub schedule_stored : (out a : List ℕ) (end : ℕ) → 6 * s.links + 1 ≤ length out → a ≡ sets out 0 (joined (link_bytes s) s.links 0) → end ≡ 6 * s.links
+      → set a end 255 ≡ schedule_bytes s ++ drop (6 * s.links + 1) out
   unfolding schedule_bytes
   schedule_stored out a end room p e =
-      let links = joined (link_bytes (of_lists n offsets periods)) n 0 in
+      let links = joined (link_bytes s) s.links 0 in
       let whole : set a end 255 ≡ sets out 0 (links ++ (255 ∷ [])) =
       rw (sets_append out 0 links (255 ∷ []), zero-add, ← p, links_long, ← e) in
-      let long : 0 + length (links ++ (255 ∷ [])) ≡ 6 * n + 1 = omega (arith, length-append links (255 ∷ []), links_long) in
+      let long : 0 + length (links ++ (255 ∷ [])) ≡ 6 * s.links + 1 = omega (arith, length-append links (255 ∷ []), links_long) in
       whole ∙ sets-eq (links ++ (255 ∷ [])) out 0 (omega arith) ∙ rw long
