@@ -26,30 +26,7 @@ first_bounds p (suc r) c = go (p c) (first_bounds p r (c + 1))
     go true w = (omega arith, omega arith)
     go false w = (omega (arith, w.0), omega (arith, w.1))
 
--- No byte from `from` up to `at` is marked.
-pub record Passes (mark : ℕ → Bool) (text : List ℕ) (from at : ℕ) : Type 0 where
-  pub onward : from ≤ at
-  pub none : (i : ℕ) → from ≤ i → i < at → mark (get_or text i 0) ≡ false
-
 module _ (mark : ℕ → Bool) (text : List ℕ) (from : ℕ) where
-  pub reaches_mark : (at : ℕ) → Passes mark text from at → at < length text → mark (get_or text at 0) ≡ true → Reaches mark text from at
-  reaches_mark at p l e = record { onward = omega (arith, p.onward); within = omega arith; passed = p.none; marked = λ m. e }
-
-  pub reaches_end : (at : ℕ) → Passes mark text from at → length text ≤ at → Reaches mark text from (length text)
-  reaches_end at p l = record { onward = omega arith; within = omega arith; passed = λ i a b. p.none i a (omega arith); marked = λ m. absurd (omega arith) }
-
-  -- The same by what a test says of each byte, where that is whether the byte is marked.
-  module _ (says : ℕ → Bool → Type 0) (marks : (byte : ℕ) (b : Bool) → says byte b → b ≡ mark byte)
-      (at : ℕ) (l : from ≤ at) (none : (i : ℕ) → from ≤ i → i < at → says (get_or text i 0) false) where
-    passes : Passes mark text from at
-    passes = record { onward = l; none = λ i a b. sym (marks _ _ (none i a b)) }
-
-    pub found_at : at < length text → says (get_or text at 0) true → FoundFrom mark text from (Some at)
-    found_at m t = (m, reaches_mark at passes m (sym (marks _ _ t)))
-
-    pub found_none : length text ≤ at → FoundFrom mark text from None
-    found_none m = reaches_end at passes m
-
   -- The words of `Reaches` hold of the index that the definition gives, and of no other.
   pub reach_reaches : Reaches mark text from (reach mark text from)
   unfolding reach

@@ -1,11 +1,6 @@
-use mathlib.Core.Path.{sym, ◌∙◌}
 use native.Mathlib.Omega.{arith}
-use Rattle.std.proofs.lemmas.List.{length-replicate}
-use Rattle.line_words.proofs.Laws.Operands.{reading_start, reading_more, reading_wrong, reading_many, reading_done}
+use Rattle.line_words.proofs.Laws.Operands.{reading_more, reading_wrong, reading_many, reading_done}
 use Rattle.line_words.proofs.read_operands.Goals as goal
-
-pub loop-i-init : goal.loop-i-init
-loop-i-init g c = reading_start _ _ _ (length-replicate _ _ ∙ sym c.told-limits)
 
 pub loop-i-preserved : goal.loop-i-preserved
 loop-i-preserved g c =
