@@ -15,7 +15,7 @@ use Rattle.site.specs.Sites.{used}
 use Rattle.reservations.specs.Reservations.{first_over, first_late}
 use Rattle.schedule.specs.Schedule.{first_crowded, scheduled}
 use Rattle.judgement.specs.Judge.{reserved, judge_of}
-use Rattle.format.specs.Commands.{size_of, schedule_size}
+use Rattle.format.specs.Commands.{schedule_size}
 use Rattle.format.specs.Words.{Bytes}
 use Rattle.plan_commands.specs.Commands.{decode}
 use Rattle.plan_reader.specs.Read.{judge_form, read_of}
