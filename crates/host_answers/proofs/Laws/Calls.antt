@@ -1,19 +1,15 @@
 -- What the proofs of hosts' calls share: what the readers answer, lists of a length, and the site that some plan bytes read to, whose check 14 need not be asked again.
 use Prim.Native.Nat.{ℕ}
-use mathlib.Core.Path.{◌≡◌, refl}
+use mathlib.Core.Path.{◌≡◌, refl, sym}
 use mathlib.Core.Bool.{Bool, true, false, not, cond}
 use mathlib.Core.List.{List}
 use lib.Dec.{eqb}
 use lib.ListN.{length}
 use borrow.Author.Tests.{eq-eqb, ne_eqb, eqb-true}
 use native.Mathlib.Omega.{arith}
-use Rattle.rulings.specs.Outcome.{Outcome, accepted, refused, ruling}
-use Rattle.rulings.specs.declared.Verdict.{Verdict}
-use Rattle.rulings.specs.declared.Verdict.TheVariants.{Accepted, Refused}
-use Rattle.rulings.proofs.Laws.Outcomes.{refused_not, else_accepted, else_refused}
+use Rattle.rulings.specs.Outcome.{Outcome, accepted, refused}
+use Rattle.rulings.proofs.Laws.Outcomes.{refused_not}
 use Rattle.site.specs.declared.Site.{Site}
-use Rattle.site.specs.Sites.{empty_site}
-use Rattle.judgement.specs.Judge.{with_site}
 use Rattle.site_check.specs.Check.{passes_of, call_fault}
 use Rattle.site_check.proofs.Laws.{passes_sound, call_when}
 use Rattle.format.specs.Words.{Bytes}
@@ -42,29 +38,21 @@ module _ {A B : Type 0} (o : Outcome B) (f : B → A) (other : ℕ → ℕ → A
   unfolding by_reading
   by_no number place e = rw e
 
--- What the reader of plans answers: `v` and `s` are its verdict and its site.
-module _ (bytes : List ℕ) (v : Verdict) (s : Site) (e : (ruling v, s) ≡ with_site (read_of bytes)) where
-  pub read_yes : v ≡ Accepted → read_of bytes ≡ accepted s
-  unfolding with_site
-  read_yes q = else_accepted empty_site (read_of bytes) s (rw q at e)
+-- The refusal of a reading, as an answer.
+pub read_told : (bytes : List ℕ) → Bytes bytes → (number place answer : ℕ) → refused number place ≡ read_of bytes → answer ≡ answer_of (refused number place)
+    → told answer ≡ refused number place
+read_told bytes small number place answer e r =
+    let near = read_near bytes small number place (sym e) in told_no answer number place r near.0 (omega (arith, near.1))
 
-  pub read_no : (number place : ℕ) → v ≡ Refused number place → read_of bytes ≡ refused number place
-  unfolding with_site
-  read_no number place q = else_refused empty_site (read_of bytes) s number place (rw q at e)
+-- A call on a live site, and one on bytes that read to none.
+module _ {A : Type 0} (bytes : List ℕ) (f : Site → A) (a : A) where
+  pub on_yes : (s : Site) → accepted s ≡ read_of bytes → f s ≡ on_site bytes a f
+  unfolding on_site
+  on_yes s e = by_yes (read_of bytes) f (λ number place. a) s (sym e)
 
-  -- The refusal of a reading, as an answer.
-  pub read_told : Bytes bytes → (number place answer : ℕ) → v ≡ Refused number place → answer ≡ answer_of (refused number place) → told answer ≡ refused number place
-  read_told small number place answer q r =
-      let near = read_near bytes small number place (read_no number place q) in told_no answer number place r near.0 (omega (arith, near.1))
-
-  module _ {A : Type 0} (f : Site → A) (a : A) where
-    pub on_yes : v ≡ Accepted → f s ≡ on_site bytes a f
-    unfolding on_site
-    on_yes q = by_yes (read_of bytes) f (λ number place. a) s (read_yes q)
-
-    pub on_no : (number place : ℕ) → v ≡ Refused number place → a ≡ on_site bytes a f
-    unfolding on_site
-    on_no number place q = by_no (read_of bytes) f (λ m p. a) number place (read_no number place q)
+  pub on_no : (number place : ℕ) → refused number place ≡ read_of bytes → a ≡ on_site bytes a f
+  unfolding on_site
+  on_no number place e = by_no (read_of bytes) f (λ m p. a) number place (sym e)
 
 -- A list of the right length, and another one.
 module _ {A : Type 0} (list : List ℕ) (n : ℕ) (a b : A) where

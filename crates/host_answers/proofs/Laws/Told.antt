@@ -1,5 +1,5 @@
 -- Answers: what a number tells, and that every refusal and every value has room in one.
-use Prim.Native.Nat.{ℕ, ◌+◌, ◌/◌, ◌%◌, ◌^◌, ◌≤◌, ◌<◌}
+use Prim.Native.Nat.{ℕ, ◌/◌, ◌%◌, ◌^◌, ◌≤◌, ◌<◌}
 use mathlib.Core.Path.{◌≡◌, refl, ap}
 use mathlib.Core.Bool.{Bool, true, false, not, cond}
 use mathlib.Core.List.{List, ◌++◌}
@@ -7,8 +7,10 @@ use lib.Dec.{ltb, leb}
 use lib.ListN.{length, drop}
 use borrow.Author.Tests.{ne_eqb, leb-true}
 use native.Mathlib.Omega.{arith}
-use Rattle.rulings.specs.Outcome.{Outcome, accepted, refused}
+use Rattle.rulings.specs.Outcome.{Outcome, accepted, refused, number_of}
+use Rattle.rulings.specs.declared.Fault.{Fault}
 use Rattle.rulings.proofs.Laws.Outcomes.{refused_not}
+use Rattle.rulings.proofs.Laws.Faults.{number_some}
 use Rattle.site.specs.declared.Site.{Site}
 use Rattle.site.specs.Sites.{live}
 use Rattle.schedule_check.specs.declared.Schedule.{Schedule}
@@ -31,6 +33,10 @@ told_no answer number place e some l =
     let q : answer / 2 ^ 56 ≡ number = omega arith in
     let r : answer % 2 ^ 56 ≡ place = omega arith in
     rw (q, r, ne_eqb number 0 (omega arith))
+
+-- The number of a fault is not 0, so a refusal with a place below 2^56 is told as such.
+pub told_fault : (answer : ℕ) (f : Fault) (place : ℕ) → answer ≡ answer_of (refused (number_of f) place) → place < 2 ^ 56 → told answer ≡ refused (number_of f) place
+told_fault answer f place e l = told_no answer (number_of f) place e (omega (arith, number_some f)) l
 
 pub tellable : {A : Type 0} (o : Outcome A) → Near 763 o → Tellable o
 tellable o w = record { near = λ number place e. let near = w number place e in (near.0, omega (arith, near.1)) }
