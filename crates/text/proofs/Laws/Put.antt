@@ -7,7 +7,6 @@ use lib.Seq.{take_at, length-take-le, drop-append-add, drop-drop}
 use borrow.Author.Tests.{le-leb}
 use native.Mathlib.Nat.{add-zero, zero-add}
 use native.Mathlib.Omega.{arith}
-use Rattle.text.specs.Decimal.{decimal}
 use Rattle.slices.specs.Put.{put}
 use Rattle.text.specs.Page.{shown}
 use Rattle.text.specs.Put.{puts, text_of}
@@ -25,10 +24,6 @@ puts_append s (p ∷ ps) qs = puts_append (put s p) ps qs
 
 pub puts_then : (s t u : ℕ × List ℕ) (ps qs : List (List ℕ)) → t ≡ puts s ps → u ≡ puts t qs → u ≡ puts s (ps ++ qs)
 puts_then s t u ps qs e f = f ∙ ap (λ (x : ℕ × List ℕ). puts x qs) e ∙ sym (puts_append s ps qs)
-
--- A field by the number that it says.
-pub field_as : (t : ℕ × List ℕ) (name : List ℕ) (n m : ℕ) → n ≡ m → puts t (name ∷ decimal n ∷ []) ≡ puts t (name ∷ decimal m ∷ [])
-field_as t name n m e = rw e
 
 pub puts_long : (s : ℕ × List ℕ) (ps : List (List ℕ)) → length (puts s ps).1 ≡ length s.1
 unfolding puts
