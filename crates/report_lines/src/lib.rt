@@ -1,60 +1,77 @@
 // What printed texts have in common: refusals, verdicts and a link's slots, and a text handed to the slice of the caller.
-#![tactic(auto)]
+#![tactic(auto, unfolding(text::specs::Put::puts))]
 
-ghost use Rattle.std.specs.Prelude.{◌≡◌, take};
-ghost use Rattle.text.specs.Put.{puts};
-ghost use Rattle.rulings.specs.Outcome.{ruling};
-ghost use Rattle.report_lines.specs.Lines.{refusal, refusal_line, verdict_text, slots_text};
-ghost use Rattle.slices.specs.Written.{writing, written};
+ghost use Rattle.std.specs.Prelude.{◌≡◌, ◌≤◌, ℕ, List, length};
+ghost use Rattle.std.specs.Fn.{FnOnceReturnsAtMut};
+ghost use Rattle.text.specs.declared.Page.{Page};
+ghost use Rattle.text.specs.Put.{text_of};
+ghost use Rattle.text.specs.Page.{Adds};
+ghost use Rattle.rulings.specs.Outcome.{outcome, number_of};
+ghost use Rattle.report_lines.specs.Lines.{refusal as refusal·, refusal_line, verdict_text, slots_text};
+ghost use Rattle.slices.specs.Written.{written};
 
-use rulings::Verdict;
-use slices::Written;
+use rulings::{Fault, Refusal, Verdict};
+use text::Page;
 
 // 01: number and place. The line stays open, since an answer of `rehearse` ends its own.
-pub fn put_refusal(out: &mut [u8], at: usize, number: u8, place: usize) -> usize
-    ensures { (result, out.new) ≡ puts (at, out.old) (refusal number place) }
+#[tactic(auto, unfolding(text::specs::Put::puts, crate::specs::Lines::refusal))]
+pub fn put_refusal(page: &mut Page, refusal: Refusal)
+    ensures { Adds page.old page.new (refusal· (number_of refusal.fault) refusal.place) }
 {
-    let named = text::put_field(out, at, b"refused ", number as u64);
-    text::put_field(out, named, b" ", place as u64)
+    page.put_field(b"refused ", u64::from(refusal.fault.number()));
+    page.put_field(b" ", refusal.place as u64);
 }
 
 // An accepted call brings no figures, so one word stands for it.
-pub fn put_verdict(out: &mut [u8], at: usize, verdict: Verdict) -> usize
-    ensures { (result, out.new) ≡ puts (at, out.old) (verdict_text (ruling verdict)) }
+#[tactic(auto, unfolding(text::specs::Put::puts, crate::specs::Lines::verdict_text))]
+pub fn put_verdict(page: &mut Page, verdict: Verdict)
+    ensures { Adds page.old page.new (verdict_text (outcome verdict)) }
 {
     match verdict {
-        Verdict::Accepted => slices::put(out, at, b"accepted"),
-        Verdict::Refused(number, place) => put_refusal(out, at, number, place),
+        Ok(()) => page.put(b"accepted"),
+        Err(refusal) => put_refusal(page, refusal),
     }
 }
 
 // 01: of a refused plan this line is all that is printed.
-pub fn put_refusal_line(out: &mut [u8], at: usize, number: u8, place: usize) -> usize
-    ensures { (result, out.new) ≡ puts (at, out.old) (refusal_line number place) }
+#[tactic(auto, using(text::proofs::Laws::Put::puts_append), unfolding(text::specs::Put::puts))]
+pub fn put_refusal_line(page: &mut Page, refusal: Refusal)
+    ensures { Adds page.old page.new (refusal_line (number_of refusal.fault) refusal.place) }
 {
-    let told = put_refusal(out, at, number, place);
-    slices::put(out, told, b"\n")
+    put_refusal(page, refusal);
+    page.put(b"\n");
 }
 
-// 01: a writer fills the front of the borrowed slice. What it writes here are the first `size` bytes of the text, all of them where it has fewer.
-pub fn deliver(text: &[u8], size: usize, out: &mut [u8]) -> Written
-    ensures { (writing result, out.new) ≡ written (take size text.now) out.old }
+// 01: a writer fills the front of the borrowed slice.
+#[tactic(auto, unfolding(slices::specs::Written::written))]
+pub fn deliver(text: &[u8], out: &mut [u8]) -> Result<usize, Refusal>
+    ensures { (outcome result, out.new) ≡ written text.now out.old }
 {
-    let mut front = size;
-    if text.len() < size {
-        front = text.len();
+    let size = text.len();
+    if out.len() < size {
+        return Err(Fault::WrongLength.at(0));
     }
-    if out.len() < front {
-        return Written::Refused(1, 0);
-    }
-    slices::put(out, 0, &text[0..front]);
-    Written::Length(front)
+    out[..size].copy_from_slice(text);
+    Ok(size)
 }
 
-pub fn put_slots(out: &mut [u8], at: usize, offset: u16, period: u16) -> usize
-    ensures { (result, out.new) ≡ puts (at, out.old) (slots_text offset period) }
+// Lines put on a page of 8,192 bytes, and handed to the slice of the caller.
+pub fn deliver_lines<F: FnOnce(&mut Page)>(put: F, out: &mut [u8]) -> Result<usize, Refusal>
+    requires { F.IsAlwaysCallable put }
+    ensures { (lines : List (List ℕ)) → length (text_of lines) ≤ 8192
+        → ((old new : Page) → FnOnceReturnsAtMut F.FnOnce put old tt new → Adds old new lines)
+        → (outcome result, out.new) ≡ written (text_of lines) out.old }
 {
-    let begun = text::put_field(out, at, b" offset ", offset as u64);
-    let again = text::put_field(out, begun, b" period ", period as u64);
-    slices::put(out, again, b"\n")
+    let mut space = [0u8; 8192];
+    let mut page = Page::over(&mut space);
+    put(&mut page);
+    deliver(page.text(), out)
+}
+
+pub fn put_slots(page: &mut Page, offset: u16, period: u16)
+    ensures { Adds page.old page.new (slots_text offset period) }
+{
+    page.put_field(b" offset ", u64::from(offset));
+    page.put_field(b" period ", u64::from(period));
+    page.put(b"\n");
 }
