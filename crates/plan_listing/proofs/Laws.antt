@@ -1,3 +1,2 @@
--- What is proved of listings. The modules named here hold the laws.
-pub mod Lines
+-- What is proved of listings. The module named here has the laws.
 pub mod Short

@@ -1,102 +1,87 @@
-// A plan as lines that can be typed again, put into a borrowed slice.
-#![tactic(auto)]
+// A plan as lines that can be typed again.
+#![tactic(auto, unfolding(text::specs::Put::puts))]
 
-ghost use Rattle.std.specs.Prelude.{◌≡◌};
-ghost use Rattle.text.specs.Put.{puts};
-ghost use Rattle.plan_listing.specs.Listing.{listing_lines, listing_of, node_text, node_typed, typed_flow, flow_typed_if, site_typed};
-ghost use Rattle.slices.specs.Written.{writing, written};
+ghost use Rattle.std.specs.Prelude.{◌≡◌, ◌<◌};
+ghost use Rattle.text.specs.Page.{Adds};
+ghost use Rattle.plan_listing.specs.Listing.{listing_lines, listing_of, node_typed, flow_typed, flow_typed_if, site_typed};
+ghost use Rattle.rulings.specs.Outcome.{outcome};
+ghost use Rattle.slices.specs.Written.{written};
 ghost use Rattle.plan_reader.specs.Read.{read_of};
 ghost use Rattle.lists.specs.Lists.{joined};
 ghost use Rattle.site.specs.Sites.{used};
 
-use report_lines::{deliver, put_refusal_line};
-use rulings::Verdict;
+use report_lines::{deliver_lines, put_refusal_line};
+use rulings::Refusal;
 use site::Site;
-use slices::Written;
+use text::Page;
 
 // Only an accepted plan has a listing; of any other the refusal is told.
-fn put_listing(out: &mut [u8], at: usize, bytes: &[u8]) -> usize
-    ensures { (result, out.new) ≡ puts (at, out.old) (listing_lines (read_of bytes.now)) }
+#[tactic(auto, unfolding(text::specs::Put::puts, crate::specs::Listing::listing_lines))]
+fn put_listing(page: &mut Page, bytes: &[u8])
+    ensures { Adds page.old page.new (listing_lines (read_of bytes.now)) }
 {
-    let read = plan_reader::read_plan(bytes);
-    let verdict = read.verdict;
-    match verdict {
-        Verdict::Accepted => put_plan(out, at, read.site),
-        Verdict::Refused(number, place) => put_refusal_line(out, at, number, place),
+    match plan_reader::read_site(bytes) {
+        Ok(site) => put_plan(page, &site),
+        Err(refusal) => put_refusal_line(page, refusal),
     }
 }
 
 // No text is longer than 8,192 bytes: the law `listing_short`.
-pub fn list_plan(bytes: &[u8], out: &mut [u8]) -> Written
-    ensures { (writing result, out.new) ≡ written (listing_of bytes.now) out.old }
+#[tactic(auto, using(crate::proofs::Laws::Short::listing_short), unfolding(crate::specs::Listing::listing_of))]
+pub fn list_plan(bytes: &[u8], out: &mut [u8]) -> Result<usize, Refusal>
+    ensures { (outcome result, out.new) ≡ written (listing_of bytes.now) out.old }
 {
-    let mut lines = [0u8; 8192];
-    let size = put_listing(&mut lines, 0, bytes);
-    deliver(&lines, size, out)
+    deliver_lines(|page| put_listing(page, bytes), out)
 }
 
-fn put_node(out: &mut [u8], at: usize, parent: u8, capacity: u16, gap: u16) -> usize
-    ensures { (result, out.new) ≡ puts (at, out.old) (node_text parent capacity gap) }
+#[tactic(auto, unfolding(text::specs::Put::puts, crate::specs::Listing::node_typed))]
+fn put_node(page: &mut Page, site: &Site, i: usize)
+    requires { i < 63 }
+    ensures { Adds page.old page.new (node_typed site.now i) }
 {
-    let under = text::put_field(out, at, b"node ", parent as u64);
-    let wide = text::put_field(out, under, b" ", capacity as u64);
-    let wanted = text::put_field(out, wide, b" ", gap as u64);
-    slices::put(out, wanted, b"\n")
+    page.put_field(b"node ", u64::from(site.parents[i]));
+    page.put_field(b" ", u64::from(site.capacities[i]));
+    page.put_field(b" ", u64::from(site.gaps[i]));
+    page.put(b"\n");
 }
 
-fn put_nodes(out: &mut [u8], at: usize, site: Site) -> usize
-    ensures { (result, out.new) ≡ puts (at, out.old) (joined (node_typed site) (used site.links) 0) }
+#[tactic(auto, using(report_lines::proofs::Laws::Lines::lines), unfolding(text::specs::Put::puts, site::specs::Sites::used))]
+fn put_nodes(page: &mut Page, site: &Site)
+    ensures { Adds page.old page.new (joined (node_typed site.now) (used site.now.links) 0) }
 {
-    let links = site::link_count(site.links);
-    let mut taken = at;
-    let mut i = 0;
-    while i < links {
-        taken = put_node(
-            out,
-            taken,
-            site.parents[i],
-            site.capacities[i],
-            site.gaps[i],
-        );
-        i += 1;
+    for i in 0..site.link_count() {
+        put_node(page, site, i);
     }
-    taken
 }
 
-fn put_flow(out: &mut [u8], at: usize, n: usize, entry: u8, rate: u8, deadline: u16) -> usize
-    ensures { (result, out.new) ≡ puts (at, out.old) (typed_flow n entry rate deadline) }
+#[tactic(auto, unfolding(text::specs::Put::puts, crate::specs::Listing::flow_typed))]
+fn put_flow(page: &mut Page, site: &Site, number: u8)
+    requires { number < 64 }
+    ensures { Adds page.old page.new (flow_typed site.now number) }
 {
-    let named = text::put_field(out, at, b"flow ", n as u64);
-    let entered = text::put_field(out, named, b" ", entry as u64);
-    let rated = text::put_field(out, entered, b" ", rate as u64);
-    let due = text::put_field(out, rated, b" ", deadline as u64);
-    slices::put(out, due, b"\n")
+    let n = number as usize;
+    page.put_field(b"flow ", u64::from(number));
+    page.put_field(b" ", u64::from(site.entries[n]));
+    page.put_field(b" ", u64::from(site.rates[n]));
+    page.put_field(b" ", u64::from(site.deadlines[n]));
+    page.put(b"\n");
 }
 
-fn put_flows(out: &mut [u8], at: usize, site: Site) -> usize
-    ensures { (result, out.new) ≡ puts (at, out.old) (joined (flow_typed_if site) 64 0) }
+#[tactic(auto, using(report_lines::proofs::Laws::Lines::lines), unfolding(text::specs::Put::puts, crate::specs::Listing::flow_typed_if))]
+fn put_flows(page: &mut Page, site: &Site)
+    ensures { Adds page.old page.new (joined (flow_typed_if site.now) 64 0) }
 {
-    let mut taken = at;
-    let mut n = 0;
-    while n < 64 {
-        if site.states[n] == 1 {
-            taken = put_flow(
-                out,
-                taken,
-                n,
-                site.entries[n],
-                site.rates[n],
-                site.deadlines[n],
-            );
+    for number in 0..64 {
+        if site.is_live(number) {
+            put_flow(page, site, number);
         }
-        n += 1;
     }
-    taken
 }
 
-pub fn put_plan(out: &mut [u8], at: usize, site: Site) -> usize
-    ensures { (result, out.new) ≡ puts (at, out.old) (site_typed site) }
+#[tactic(auto, using(text::proofs::Laws::Put::puts_append), unfolding(text::specs::Put::puts, crate::specs::Listing::site_typed))]
+pub fn put_plan(page: &mut Page, site: &Site)
+    ensures { Adds page.old page.new (site_typed site.now) }
 {
-    let linked = put_nodes(out, at, site);
-    put_flows(out, linked, site)
+    put_nodes(page, site);
+    put_flows(page, site);
 }

@@ -1,68 +1,71 @@
-// What `readschedule` prints of schedule bytes, put into a borrowed slice.
-#![tactic(auto)]
+// What `readschedule` prints of schedule bytes.
+#![tactic(auto, unfolding(text::specs::Put::puts))]
 
-ghost use Rattle.std.specs.Prelude.{◌≡◌, ◌+◌, ◌<◌, ◌∷◌};
-ghost use Rattle.text.specs.Put.{puts};
+ghost use Rattle.std.specs.Prelude.{◌≡◌, ◌<◌, [], ◌∷◌};
+ghost use Rattle.text.specs.Page.{Adds};
 ghost use Rattle.schedule_report.specs.Report.{schedule_lines, schedule_report_of, slots_line, schedule_text};
-ghost use Rattle.slices.specs.Written.{writing, written};
+ghost use Rattle.rulings.specs.Outcome.{outcome};
+ghost use Rattle.slices.specs.Written.{written};
 ghost use Rattle.text.specs.Letters.{letters};
 ghost use Rattle.text.specs.Decimal.{decimal};
 ghost use Rattle.schedule_reader.specs.Read.{schedule_read};
 ghost use Rattle.lists.specs.Lists.{joined};
 ghost use Rattle.site.specs.Sites.{used};
-ghost use Rattle.report_lines.specs.Lines.{slots_text};
 
-use report_lines::{deliver, put_refusal_line, put_slots};
-use rulings::Verdict;
+use report_lines::{deliver_lines, put_refusal_line, put_slots};
+use rulings::Refusal;
 use schedule_check::Schedule;
-use slices::Written;
+use text::Page;
 
 // The lines of an accepted schedule, or the one line of a refusal.
-fn put_report(out: &mut [u8], at: usize, bytes: &[u8]) -> usize
-    ensures { (result, out.new) ≡ puts (at, out.old) (schedule_lines (schedule_read bytes.now)) }
+fn put_report(page: &mut Page, bytes: &[u8])
+    ensures { Adds page.old page.new (schedule_lines (schedule_read bytes.now)) }
 {
     let read = schedule_reader::read_schedule(bytes);
-    let verdict = read.verdict;
-    match verdict {
-        Verdict::Accepted => put_schedule(out, at, read.schedule),
-        Verdict::Refused(number, place) => put_refusal_line(out, at, number, place),
+    match read.verdict {
+        Ok(()) => put_schedule(page, &read.schedule),
+        Err(refusal) => put_refusal_line(page, refusal),
     }
 }
 
 // No text is longer than 8,192 bytes: the law `schedule_report_short`.
-pub fn report_schedule(bytes: &[u8], out: &mut [u8]) -> Written
-    ensures { (writing result, out.new) ≡ written (schedule_report_of bytes.now) out.old }
+#[tactic(auto, using(crate::proofs::Laws::Short::schedule_report_short), unfolding(crate::specs::Report::schedule_report_of))]
+pub fn report_schedule(bytes: &[u8], out: &mut [u8]) -> Result<usize, Refusal>
+    ensures { (outcome result, out.new) ≡ written (schedule_report_of bytes.now) out.old }
 {
-    let mut lines = [0u8; 8192];
-    let size = put_report(&mut lines, 0, bytes);
-    deliver(&lines, size, out)
+    deliver_lines(|page| put_report(page, bytes), out)
 }
 
-fn put_link(out: &mut [u8], at: usize, i: usize, offset: u16, period: u16) -> usize
+#[tactic(auto, unfolding(text::specs::Put::puts, crate::specs::Report::slots_line))]
+fn put_link(page: &mut Page, schedule: &Schedule, i: usize)
     requires { i < 63 }
-    ensures { (result, out.new) ≡ puts (at, out.old) (letters "link " ∷ decimal (i + 1) ∷ slots_text offset period) }
+    ensures { Adds page.old page.new (slots_line schedule.now i) }
 {
-    let named = text::put_field(out, at, b"link ", i as u64 + 1);
-    put_slots(out, named, offset, period)
+    page.put_field(b"link ", i as u64 + 1);
+    put_slots(page, schedule.offsets[i], schedule.periods[i]);
 }
 
-fn put_links(out: &mut [u8], at: usize, schedule: Schedule) -> usize
-    ensures { (result, out.new) ≡ puts (at, out.old) (joined (slots_line schedule) (used schedule.links) 0) }
+#[tactic(auto, using(report_lines::proofs::Laws::Lines::lines), unfolding(text::specs::Put::puts, site::specs::Sites::used))]
+fn put_links(page: &mut Page, schedule: &Schedule)
+    ensures { Adds page.old page.new (joined (slots_line schedule.now) (used schedule.now.links) 0) }
 {
-    let links = site::link_count(schedule.links);
-    let mut taken = at;
-    let mut i = 0;
-    while i < links {
-        taken = put_link(out, taken, i, schedule.offsets[i], schedule.periods[i]);
-        i += 1;
+    for i in 0..schedule.links.min(63) as usize {
+        put_link(page, schedule, i);
     }
-    taken
 }
 
-fn put_schedule(out: &mut [u8], at: usize, schedule: Schedule) -> usize
-    ensures { (result, out.new) ≡ puts (at, out.old) (schedule_text schedule) }
+// 02: the last line counts the links.
+fn put_count(page: &mut Page, links: u8)
+    ensures { Adds page.old page.new (letters "accepted links " ∷ decimal links ∷ letters "\n" ∷ []) }
 {
-    let linked = put_links(out, at, schedule);
-    let counted = text::put_field(out, linked, b"accepted links ", schedule.links as u64);
-    slices::put(out, counted, b"\n")
+    page.put_field(b"accepted links ", u64::from(links));
+    page.put(b"\n");
+}
+
+#[tactic(auto, using(text::proofs::Laws::Put::puts_append), unfolding(text::specs::Put::puts, crate::specs::Report::schedule_text))]
+fn put_schedule(page: &mut Page, schedule: &Schedule)
+    ensures { Adds page.old page.new (schedule_text schedule.now) }
+{
+    put_links(page, schedule);
+    put_count(page, schedule.links);
 }

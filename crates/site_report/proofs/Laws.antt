@@ -1,3 +1,2 @@
 -- What is proved of what is printed.
-pub mod Lines
 pub mod Short

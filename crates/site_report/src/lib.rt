@@ -1,136 +1,101 @@
-// What `slotplan` prints of plan bytes: the lines of a site's links and live flows and their numbers, put into a borrowed slice.
-#![tactic(auto)]
+// What `slotplan` prints of plan bytes: the lines of a site's links and live flows and their numbers.
+#![tactic(auto, unfolding(text::specs::Put::puts))]
 
-ghost use Rattle.std.specs.Prelude.{◌≡◌, ◌+◌, ◌<◌};
-ghost use Rattle.text.specs.Put.{puts};
-ghost use Rattle.site_report.specs.Report.{site_lines, report_lines, report_of, link_text, link_line, flow_text, flow_line_if, counts_line};
-ghost use Rattle.slices.specs.Written.{writing, written};
+ghost use Rattle.std.specs.Prelude.{◌≡◌, ◌<◌};
+ghost use Rattle.text.specs.Page.{Adds};
+ghost use Rattle.site_report.specs.Report.{site_lines, report_lines, report_of, link_line, flow_line, flow_line_if, counts_line};
+ghost use Rattle.rulings.specs.Outcome.{outcome};
+ghost use Rattle.slices.specs.Written.{written};
 ghost use Rattle.plan_reader.specs.Read.{read_of};
 ghost use Rattle.lists.specs.Lists.{joined};
 ghost use Rattle.site.specs.Sites.{used};
 
-use report_lines::{deliver, put_refusal_line, put_slots};
-use rulings::Verdict;
+use report_lines::{deliver_lines, put_refusal_line, put_slots};
+use rulings::Refusal;
 use site::Site;
-use slices::Written;
+use text::Page;
 
-pub fn put_site(out: &mut [u8], at: usize, site: Site) -> usize
-    ensures { (result, out.new) ≡ puts (at, out.old) (site_lines site) }
+#[tactic(auto, using(text::proofs::Laws::Put::puts_append), unfolding(text::specs::Put::puts, crate::specs::Report::site_lines))]
+pub fn put_site(page: &mut Page, site: &Site)
+    ensures { Adds page.old page.new (site_lines site.now) }
 {
-    let linked = put_links(out, at, site);
-    let flown = put_flows(out, linked, site);
-    put_counts(out, flown, site)
+    put_links(page, site);
+    put_flows(page, site);
+    put_counts(page, site);
 }
 
 // 01, Marked plans: the lines of an accepted plan, or the one line of a refusal.
-fn put_report(out: &mut [u8], at: usize, bytes: &[u8]) -> usize
-    ensures { (result, out.new) ≡ puts (at, out.old) (report_lines (read_of bytes.now)) }
+#[tactic(auto, unfolding(text::specs::Put::puts, crate::specs::Report::report_lines))]
+fn put_report(page: &mut Page, bytes: &[u8])
+    ensures { Adds page.old page.new (report_lines (read_of bytes.now)) }
 {
-    let read = plan_reader::read_plan(bytes);
-    let verdict = read.verdict;
-    match verdict {
-        Verdict::Accepted => put_site(out, at, read.site),
-        Verdict::Refused(number, place) => put_refusal_line(out, at, number, place),
+    match plan_reader::read_site(bytes) {
+        Ok(site) => put_site(page, &site),
+        Err(refusal) => put_refusal_line(page, refusal),
     }
 }
 
 // No text is longer than 8,192 bytes: the law `report_short`.
-pub fn report(bytes: &[u8], out: &mut [u8]) -> Written
-    ensures { (writing result, out.new) ≡ written (report_of bytes.now) out.old }
+#[tactic(auto, using(crate::proofs::Laws::Short::report_short), unfolding(crate::specs::Report::report_of))]
+pub fn report(bytes: &[u8], out: &mut [u8]) -> Result<usize, Refusal>
+    ensures { (outcome result, out.new) ≡ written (report_of bytes.now) out.old }
 {
-    let mut lines = [0u8; 8192];
-    let size = put_report(&mut lines, 0, bytes);
-    deliver(&lines, size, out)
+    deliver_lines(|page| put_report(page, bytes), out)
 }
 
-fn put_link(
-    out: &mut [u8],
-    at: usize,
-    i: usize,
-    parent: u8,
-    base: u16,
-    offset: u16,
-    period: u16,
-) -> usize
+#[tactic(auto, unfolding(text::specs::Put::puts, crate::specs::Report::link_line))]
+fn put_link(page: &mut Page, site: &Site, i: usize)
     requires { i < 63 }
-    ensures { (result, out.new) ≡ puts (at, out.old) (link_text (i + 1) parent base offset period) }
+    ensures { Adds page.old page.new (link_line site.now i) }
 {
-    let named = text::put_field(out, at, b"link ", i as u64 + 1);
-    let under = text::put_field(out, named, b" parent ", parent as u64);
-    let based = text::put_field(out, under, b" base ", base as u64);
-    put_slots(out, based, offset, period)
+    let parent = site.parents[i];
+    let base = schedule::base_under(site, parent).unwrap_or(0);
+    page.put_field(b"link ", i as u64 + 1);
+    page.put_field(b" parent ", u64::from(parent));
+    page.put_field(b" base ", u64::from(base));
+    put_slots(page, site.offsets[i], site.periods[i]);
 }
 
-fn put_links(out: &mut [u8], at: usize, site: Site) -> usize
-    ensures { (result, out.new) ≡ puts (at, out.old) (joined (link_line site) (used site.links) 0) }
+#[tactic(auto, using(report_lines::proofs::Laws::Lines::lines), unfolding(text::specs::Put::puts, site::specs::Sites::used))]
+fn put_links(page: &mut Page, site: &Site)
+    ensures { Adds page.old page.new (joined (link_line site.now) (used site.now.links) 0) }
 {
-    let links = site::link_count(site.links);
-    let mut taken = at;
-    let mut i = 0;
-    while i < links {
-        let parent = site.parents[i];
-        let base = schedule::base_under(site, parent);
-        taken = put_link(
-            out,
-            taken,
-            i,
-            parent,
-            base,
-            site.offsets[i],
-            site.periods[i],
-        );
-        i += 1;
+    for i in 0..site.link_count() {
+        put_link(page, site, i);
     }
-    taken
 }
 
-fn put_flow(
-    out: &mut [u8],
-    at: usize,
-    n: usize,
-    entry: u8,
-    rate: u8,
-    deadline: u16,
-    bound: u32,
-) -> usize
-    ensures { (result, out.new) ≡ puts (at, out.old) (flow_text n entry rate deadline bound) }
+#[tactic(auto, unfolding(text::specs::Put::puts, crate::specs::Report::flow_line))]
+fn put_flow(page: &mut Page, site: &Site, number: u8)
+    requires { number < 64 }
+    ensures { Adds page.old page.new (flow_line site.now number) }
 {
-    let named = text::put_field(out, at, b"flow ", n as u64);
-    let entered = text::put_field(out, named, b" node ", entry as u64);
-    let rated = text::put_field(out, entered, b" rate ", rate as u64);
-    let due = text::put_field(out, rated, b" deadline ", deadline as u64);
-    let bounded = text::put_field(out, due, b" bound ", bound as u64);
-    slices::put(out, bounded, b"\n")
+    let n = number as usize;
+    page.put_field(b"flow ", u64::from(number));
+    page.put_field(b" node ", u64::from(site.entries[n]));
+    page.put_field(b" rate ", u64::from(site.rates[n]));
+    page.put_field(b" deadline ", u64::from(site.deadlines[n]));
+    page.put_field(b" bound ", u64::from(bounds::delay_bound(site, number)));
+    page.put(b"\n");
 }
 
-fn put_flows(out: &mut [u8], at: usize, site: Site) -> usize
-    ensures { (result, out.new) ≡ puts (at, out.old) (joined (flow_line_if site) 64 0) }
+#[tactic(auto, using(report_lines::proofs::Laws::Lines::lines), unfolding(text::specs::Put::puts, crate::specs::Report::flow_line_if))]
+fn put_flows(page: &mut Page, site: &Site)
+    ensures { Adds page.old page.new (joined (flow_line_if site.now) 64 0) }
 {
-    let mut taken = at;
-    let mut n = 0;
-    while n < 64 {
-        if site.states[n] == 1 {
-            let bound = bounds::delay_bound(site, n as u8);
-            taken = put_flow(
-                out,
-                taken,
-                n,
-                site.entries[n],
-                site.rates[n],
-                site.deadlines[n],
-                bound,
-            );
+    for number in 0..64 {
+        if site.is_live(number) {
+            put_flow(page, site, number);
         }
-        n += 1;
     }
-    taken
 }
 
 // 01: the last line counts links and flows.
-pub fn put_counts(out: &mut [u8], at: usize, site: Site) -> usize
-    ensures { (result, out.new) ≡ puts (at, out.old) (counts_line site) }
+#[tactic(auto, unfolding(text::specs::Put::puts, crate::specs::Report::counts_line))]
+pub fn put_counts(page: &mut Page, site: &Site)
+    ensures { Adds page.old page.new (counts_line site.now) }
 {
-    let linked = text::put_field(out, at, b"accepted links ", site.links as u64);
-    let counted = text::put_field(out, linked, b" flows ", site::flow_count(site));
-    slices::put(out, counted, b"\n")
+    page.put_field(b"accepted links ", u64::from(site.links));
+    page.put_field(b" flows ", site.flow_count());
+    page.put(b"\n");
 }

@@ -1,11 +1,8 @@
--- Right because the lines of the live flows below n are put; 64 - n falls.
-use Prim.Native.Nat.{◌-◌, ◌≤◌}
+-- Right because the lines of the live flows below this number are put.
+use Rattle.lists.specs.Lists.{joined}
+use Rattle.text.specs.Page.{Adds}
 use Rattle.plan_listing.specs.Listing.{flow_typed_if}
-use Rattle.report_lines.proofs.Laws.Lines.{Printed}
 use Rattle.plan_listing.proofs.put_flows.Given as goal
 
-abbrev pub invariant-loop-n : goal.invariant-loop-n
-invariant-loop-n l = (l.n ≤ 64) × Printed (flow_typed_if l.site) (l.at, l.initial.out) l.n (l.taken, l.out)
-
-abbrev pub decreases-loop-n : goal.decreases-loop-n
-decreases-loop-n l = 64 - l.n
+abbrev pub invariant-loop-number : goal.invariant-loop-number
+invariant-loop-number l = Adds l.initial.page l.page (joined (flow_typed_if l.site) l.number 0)

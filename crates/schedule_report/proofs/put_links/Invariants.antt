@@ -1,11 +1,8 @@
--- Right because the lines of the links before index i are put; links - i falls.
-use Prim.Native.Nat.{◌-◌, ◌≤◌}
+-- Right because the lines of the links before this one are put.
+use Rattle.lists.specs.Lists.{joined}
+use Rattle.text.specs.Page.{Adds}
 use Rattle.schedule_report.specs.Report.{slots_line}
-use Rattle.report_lines.proofs.Laws.Lines.{Printed}
 use Rattle.schedule_report.proofs.put_links.Given as goal
 
 abbrev pub invariant-loop-i : goal.invariant-loop-i
-invariant-loop-i l = (l.links ≤ 63) × (l.i ≤ l.links) × Printed (slots_line l.schedule) (l.at, l.initial.out) l.i (l.taken, l.out)
-
-abbrev pub decreases-loop-i : goal.decreases-loop-i
-decreases-loop-i l = l.links - l.i
+invariant-loop-i l = Adds l.initial.page l.page (joined (slots_line l.schedule) l.i 0)

@@ -1,11 +1,8 @@
--- Right because the lines of the links before index i are put; links - i falls.
-use Prim.Native.Nat.{◌-◌, ◌≤◌}
+-- Right because the lines of the links before this one are put.
+use Rattle.lists.specs.Lists.{joined}
+use Rattle.text.specs.Page.{Adds}
 use Rattle.site_report.specs.Report.{link_line}
-use Rattle.report_lines.proofs.Laws.Lines.{Printed}
 use Rattle.site_report.proofs.put_links.Given as goal
 
 abbrev pub invariant-loop-i : goal.invariant-loop-i
-invariant-loop-i l = (l.links ≤ 63) × (l.i ≤ l.links) × Printed (link_line l.site) (l.at, l.initial.out) l.i (l.taken, l.out)
-
-abbrev pub decreases-loop-i : goal.decreases-loop-i
-decreases-loop-i l = l.links - l.i
+invariant-loop-i l = Adds l.initial.page l.page (joined (link_line l.site) l.i 0)
