@@ -1,20 +1,18 @@
 -- What is proved of the answers: which of their forms a site, its counters and a writing get.
-use Prim.Native.Nat.{ℕ, ◌+◌, ◌-◌, ◌*◌, ◌≤◌, ◌<◌}
-use mathlib.Core.Path.{◌≡◌, refl, sym, ◌∙◌, ap}
+use Prim.Native.Nat.{ℕ, ◌≤◌, ◌<◌}
+use mathlib.Core.Path.{◌≡◌, refl, ◌∙◌, ap}
 use mathlib.Core.Bool.{Bool, true, false, cond}
-use mathlib.Core.List.{List, [], ◌∷◌, ◌++◌}
+use mathlib.Core.List.{List, ◌++◌}
 use mathlib.Core.Logic.{inl, inr}
 use lib.Dec.{ltb}
-use lib.ListN.{length, get_or, take, drop, get_or-eq_default, length-append}
+use lib.ListN.{length, get_or, drop, get_or-eq_default, length-append}
 use lib.Seq.{take_at}
-use borrow.Author.Tests.{le-leb, lt-leb, eqb-true, ltb-true}
-use native.Mathlib.Nat.{sub-zero}
+use borrow.Author.Tests.{le-leb, eqb-true, ltb-true}
 use native.Mathlib.Omega.{arith}
 use Rattle.rulings.specs.Outcome.{Outcome, accepted, refused}
 use Rattle.lists.proofs.Laws.Search.{lt_or_le}
 use Rattle.site.specs.declared.Site.{Site}
 use Rattle.site.specs.Sites.{live}
-use Rattle.reservations.specs.Reservations.{delay_bound}
 use Rattle.site_check.specs.Check.{passes_of, written_if}
 use Rattle.site_check.proofs.Laws.Check.{passes_few}
 use Rattle.format.specs.Commands.{schedule_size}
@@ -23,24 +21,10 @@ use Rattle.plan_writer.specs.Write.{plan_bytes}
 use Rattle.slices.specs.Written.{written, handed}
 use Rattle.schedule_writer.proofs.Laws.Write.{links_few, schedule_size_lem}
 use Rattle.plan.proofs.Laws.{plan_short}
-use Rattle.text.specs.Letters.{letters}
-use Rattle.text.specs.Decimal.{decimal}
-use Rattle.text.specs.Put.{puts}
-use Rattle.text.specs.Listed.{each, spaced_decimal}
 use Rattle.hexadecimal.specs.Hexadecimal.{hex_text}
 use Rattle.report_lines.specs.Lines.{refusal}
-use Rattle.call_answers.specs.Answers.{cells_text, bound_text, plan_text, schedule_shown}
+use Rattle.call_answers.specs.Answers.{plan_text, schedule_shown}
 use Rattle.call_answers.specs.Inner.{front_text, written_shown}
-
--- The nine cells, where there are so many counters.
-pub cells_none : (s t : ℕ × List ℕ) (counters : List ℕ) (n : ℕ) → length counters < 9 * n + 9 → t ≡ puts s (letters "cells" ∷ []) → t ≡ puts s (cells_text counters n)
-unfolding cells_text
-cells_none s t counters n l e = rw (lt-leb _ _ l) e
-
-pub cells_all : (s t : ℕ × List ℕ) (counters : List ℕ) (n : ℕ) → 9 * n + 9 ≤ length counters
-    → t ≡ puts s (letters "cells" ∷ each spaced_decimal (take (9 * n + 9 - 9 * n) (drop (9 * n) counters))) → t ≡ puts s (cells_text counters n)
-unfolding cells_text
-cells_all s t counters n l e = let nine : 9 * n + 9 - 9 * n ≡ 9 = omega arith in rw (le-leb _ _ l) (rw nine at e)
 
 -- A live flow's number is one of 64.
 pub live_below : (s : Site) (n : ℕ) → length s.states ≡ 64 → live s n ≡ true → n < 64
@@ -49,24 +33,6 @@ live_below s n long e = elim (lt_or_le n 64) [
   | inl l ↦ l
   | inr m ↦ absurd (omega (arith, get_or-eq_default s.states 0 {n = n} (omega arith), eqb-true (get_or s.states n 0) 1 e))
 ]
-
-pub bound_idle : (s : Site) (n : ℕ) (b : Bool) (t u : ℕ × List ℕ) → b ≡ live s n → b ≡ false → u ≡ puts t (letters "not live" ∷ []) → u ≡ puts t (bound_text s n)
-unfolding bound_text
-bound_idle s n b t u e f p = rw (sym e ∙ f) p
-
-pub bound_live : (s : Site) (n bound : ℕ) (b : Bool) (t u : ℕ × List ℕ) → b ≡ live s n → b ≡ true → bound ≡ delay_bound s n
-    → u ≡ puts t (letters "bound " ∷ decimal bound ∷ letters " deadline " ∷ decimal (get_or s.deadlines n 0) ∷ []) → u ≡ puts t (bound_text s n)
-unfolding bound_text
-bound_live s n bound b t u e f g p = rw (sym e ∙ f) (p ∙ rw g)
-
--- The front of a slice, if it is long enough.
-pub front_short : (t : ℕ × List ℕ) (n : ℕ) (bytes : List ℕ) → length bytes < n → t ≡ puts t (front_text n bytes)
-unfolding front_text puts
-front_short t n bytes l = rw (lt-leb _ _ l)
-
-pub front_long : (t u : ℕ × List ℕ) (n : ℕ) (bytes : List ℕ) → n ≤ length bytes → u ≡ puts t (hex_text (take (n - 0) bytes)) → u ≡ puts t (front_text n bytes)
-unfolding front_text
-front_long t u n bytes l e = rw (le-leb _ _ l) (rw (sub-zero n) at e)
 
 abbrev shown : Outcome ℕ × List ℕ → List (List ℕ)
 shown (o, bytes) = written_shown o bytes
@@ -94,16 +60,14 @@ writing_shown p bytes out new o room e =
     go false l = refl
 
 -- A slice of 763 bytes has room for every plan, one of 379 for every schedule.
-pub plan_shown : (s : Site) (t : ℕ × List ℕ) (out new : List ℕ) (o : Outcome ℕ) → length out ≡ 763 → (o, new) ≡ written_if s (plan_bytes s) out
-    → puts t (written_shown o new) ≡ puts t (plan_text s)
+pub plan_shown : (s : Site) (out new : List ℕ) (o : Outcome ℕ) → length out ≡ 763 → (o, new) ≡ written_if s (plan_bytes s) out
+    → written_shown o new ≡ plan_text s
 unfolding plan_text
-plan_shown s t out new o long e =
-    ap (λ (ps : List (List ℕ)). puts t ps) (writing_shown (passes_of s) (plan_bytes s) out new o (λ q. omega (arith, plan_short s q)) e)
+plan_shown s out new o long e = writing_shown (passes_of s) (plan_bytes s) out new o (λ q. omega (arith, plan_short s q)) e
 
-pub schedule_shown_lem : (s : Site) (t : ℕ × List ℕ) (out new : List ℕ) (o : Outcome ℕ) → length out ≡ 379
-    → (o, new) ≡ written_if s (schedule_bytes (schedule_of s)) out → puts t (written_shown o new) ≡ puts t (schedule_shown s)
+pub schedule_shown_lem : (s : Site) (out new : List ℕ) (o : Outcome ℕ) → length out ≡ 379 → (o, new) ≡ written_if s (schedule_bytes (schedule_of s)) out
+    → written_shown o new ≡ schedule_shown s
 unfolding schedule_shown schedule_of
-schedule_shown_lem s t out new o long e =
-    ap (λ (ps : List (List ℕ)). puts t ps)
-    (writing_shown (passes_of s) (schedule_bytes (schedule_of s)) out new o
-    (λ q. omega (arith, schedule_size_lem (schedule_of s) (schedule_size 17) refl, links_few (schedule_of s) (schedule_size 17) refl (passes_few s q))) e)
+schedule_shown_lem s out new o long e =
+    writing_shown (passes_of s) (schedule_bytes (schedule_of s)) out new o
+    (λ q. omega (arith, schedule_size_lem (schedule_of s) (schedule_size 17) refl, links_few (schedule_of s) (schedule_size 17) refl (passes_few s q))) e

@@ -1,86 +1,88 @@
 // What is shown of a site and its counters while calls are made on them.
-#![tactic(auto)]
+#![tactic(auto, unfolding(text::specs::Put::puts))]
 
-ghost use Rattle.std.specs.Prelude.{◌≡◌};
-ghost use Rattle.text.specs.Put.{puts};
-ghost use Rattle.sender.specs.Sender.{found};
-ghost use Rattle.slices.specs.Written.{writing};
+ghost use Rattle.text.specs.Page.{Adds};
+ghost use Rattle.rulings.specs.Outcome.{outcome};
 ghost use Rattle.call_answers.specs.Answers.{lookup_text, cells_text, bound_text, plan_text, schedule_shown};
 ghost use Rattle.call_answers.specs.Inner.{front_text, written_shown};
 
-use sender::Lookup;
+use report_lines::put_refusal;
+use rulings::Refusal;
 use site::Site;
-use slices::Written;
+use text::Page;
 
-pub fn put_lookup(out: &mut [u8], at: usize, lookup: Lookup) -> usize
-    ensures { (result, out.new) ≡ puts (at, out.old) (lookup_text (found lookup)) }
+#[tactic(auto, unfolding(text::specs::Put::puts, crate::specs::Answers::lookup_text))]
+pub fn put_lookup(page: &mut Page, found: Result<u8, Refusal>)
+    ensures { Adds page.old page.new (lookup_text (outcome found)) }
 {
-    match lookup {
-        Lookup::Child(child) => text::put_field(out, at, b"sender ", child as u64),
-        Lookup::Refused(number, place) => report_lines::put_refusal(out, at, number, place),
+    match found {
+        Ok(child) => page.put_field(b"sender ", u64::from(child)),
+        Err(refusal) => put_refusal(page, refusal),
     }
 }
 
 // A flow number has nine cells: eight queues, then the delivered count. Counters that are too few for them show none.
-pub fn put_cells(out: &mut [u8], at: usize, counters: &[u32], number: u8) -> usize
-    ensures { (result, out.new) ≡ puts (at, out.old) (cells_text counters.now number) }
+#[tactic(auto, unfolding(text::specs::Put::puts, crate::specs::Answers::cells_text))]
+pub fn put_cells(page: &mut Page, counters: &[u32], number: u8)
+    ensures { Adds page.old page.new (cells_text counters.now number) }
 {
     let start = 9 * number as usize;
-    let end = start + 9;
-    let named = slices::put(out, at, b"cells");
-    if counters.len() < end {
-        return named;
+    page.put(b"cells");
+    if let Some(cells) = counters.get(start..start + 9) {
+        page.put_numbers(cells);
     }
-    text::put_numbers(out, named, &counters[start..end])
 }
 
 // A number that is not live has no route, and so no bound.
-pub fn put_bound(out: &mut [u8], at: usize, site: Site, number: u8) -> usize
-    ensures { (result, out.new) ≡ puts (at, out.old) (bound_text site number) }
+#[tactic(auto, using(crate::proofs::Laws::live_below), unfolding(text::specs::Put::puts, crate::specs::Answers::bound_text))]
+pub fn put_bound(page: &mut Page, site: &Site, number: u8)
+    ensures { Adds page.old page.new (bound_text site.now number) }
 {
-    if !site::is_live(site, number) {
-        return slices::put(out, at, b"not live");
+    if !site.is_live(number) {
+        page.put(b"not live");
+        return;
     }
     let bound = bounds::delay_bound(site, number);
     let deadline = site.deadlines[number as usize];
-    let bounded = text::put_field(out, at, b"bound ", bound as u64);
-    text::put_field(out, bounded, b" deadline ", deadline as u64)
+    page.put_field(b"bound ", u64::from(bound));
+    page.put_field(b" deadline ", u64::from(deadline));
 }
 
 // No writer answers more bytes than its slice has: for such an n nothing is shown, so that callers have nothing to show first.
-fn put_front(out: &mut [u8], at: usize, bytes: &[u8], n: usize) -> usize
-    ensures { (result, out.new) ≡ puts (at, out.old) (front_text n bytes.now) }
+#[tactic(auto, unfolding(text::specs::Put::puts, crate::specs::Inner::front_text))]
+fn put_front(page: &mut Page, bytes: &[u8], n: usize)
+    ensures { Adds page.old page.new (front_text n bytes.now) }
 {
-    if bytes.len() < n {
-        return at;
+    if let Some(front) = bytes.get(..n) {
+        hexadecimal::put_bytes(page, front);
     }
-    hexadecimal::put_bytes(out, at, &bytes[0..n])
 }
 
 // The bytes that a writer put at the front of a slice, or its refusal.
-fn put_written(out: &mut [u8], at: usize, written: Written, bytes: &[u8]) -> usize
-    ensures { (result, out.new) ≡ puts (at, out.old) (written_shown (writing written) bytes.now) }
+#[tactic(auto, unfolding(text::specs::Put::puts, crate::specs::Inner::written_shown))]
+fn put_written(page: &mut Page, written: Result<usize, Refusal>, bytes: &[u8])
+    ensures { Adds page.old page.new (written_shown (outcome written) bytes.now) }
 {
     match written {
-        Written::Length(n) => put_front(out, at, bytes, n),
-        Written::Refused(number, place) => report_lines::put_refusal(out, at, number, place),
+        Ok(n) => put_front(page, bytes, n),
+        Err(refusal) => put_refusal(page, refusal),
     }
 }
 
 // The plan bytes of the site: 63 NODEs, 64 FLOWs and END take 763.
-pub fn put_plan(out: &mut [u8], at: usize, site: Site) -> usize
-    ensures { (result, out.new) ≡ puts (at, out.old) (plan_text site) }
+pub fn put_plan(page: &mut Page, site: &Site)
+    ensures { Adds page.old page.new (plan_text site.now) }
 {
     let mut bytes = [0u8; 763];
-    let written = plan_writer::write_plan(site, &mut bytes);
-    put_written(out, at, written, &bytes)
+    let written = plan_writer::write_plan(*site, &mut bytes);
+    put_written(page, written, &bytes);
 }
 
 // The schedule bytes of the site: 63 LINKs and END take 379.
-pub fn put_schedule(out: &mut [u8], at: usize, site: Site) -> usize
-    ensures { (result, out.new) ≡ puts (at, out.old) (schedule_shown site) }
+pub fn put_schedule(page: &mut Page, site: &Site)
+    ensures { Adds page.old page.new (schedule_shown site.now) }
 {
     let mut bytes = [0u8; 379];
-    let written = schedule_writer::write_schedule(site, &mut bytes);
-    put_written(out, at, written, &bytes)
+    let written = schedule_writer::write_schedule(*site, &mut bytes);
+    put_written(page, written, &bytes);
 }
