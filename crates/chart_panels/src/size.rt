@@ -5,69 +5,61 @@ ghost use Rattle.chart_panels.specs.Size.{child_count, height_for, width_for, pa
 use frames::frame_under;
 use site::Site;
 
-pub fn child_count(site: Site, parent: u8) -> u8
-    ensures { result ≡ child_count site parent }
+#[tactic(auto, unfolding(crate::specs::Size::child_count, lists::specs::Lists::sum_to, site::specs::Sites::used))]
+pub fn child_count(site: &Site, parent: u8) -> u8
+    ensures { result ≡ child_count site.now parent }
 {
-    let links = site::link_count(site.links);
     let mut count = 0;
-    let mut i = 0;
-    while i < links {
+    for i in 0..site.link_count() {
         if site.parents[i] == parent {
             count += 1;
         }
-        i += 1;
     }
     count
 }
 
 // Counts and heights are narrow, so that no sum of them can be too large.
+#[tactic(auto, unfolding(crate::specs::Size::height_for))]
 pub fn panel_height(children: u8) -> u16
     ensures { result ≡ height_for children }
 {
-    if children == 0 {
-        return 0;
+    match children {
+        0 => 0,
+        1..=12 => 100 + 20 * u16::from(children),
+        _ => 116 + 20 * u16::from(children),
     }
-    if 12 < children {
-        return 116 + 20 * children as u16;
-    }
-    100 + 20 * children as u16
 }
 
+#[tactic(auto, unfolding(crate::specs::Size::width_for))]
 fn panel_width(children: u8, slots: u32) -> u64
     ensures { result ≡ width_for children slots }
 {
     if children == 0 {
         return 0;
     }
-    448 + chart_rows::span_of(slots) as u64
+    448 + u64::from(chart_rows::span_of(slots))
 }
 
-pub fn panels_height(site: Site) -> u32
-    ensures { result ≡ panels_height site }
+#[tactic(auto, unfolding(crate::specs::Size::panels_height, crate::specs::Size::height_to, site::specs::Sites::used))]
+pub fn panels_height(site: &Site) -> u32
+    ensures { result ≡ panels_height site.now }
 {
-    let links = site::link_count(site.links);
     let mut height = 84;
-    let mut parent = 0;
-    while parent <= links {
-        height += panel_height(child_count(site, parent as u8)) as u32;
-        parent += 1;
+    for parent in 0..=site.link_count() {
+        height += u32::from(panel_height(child_count(site, parent as u8)));
     }
     height
 }
 
-pub fn panels_width(site: Site) -> u64
-    ensures { result ≡ panels_width site }
+#[tactic(auto, unfolding(crate::specs::Size::panels_width, crate::specs::Size::width_to, site::specs::Sites::used))]
+pub fn panels_width(site: &Site) -> u64
+    ensures { result ≡ panels_width site.now }
 {
-    let links = site::link_count(site.links);
-    let mut width = 684;
-    let mut parent = 0;
-    while parent <= links {
+    let mut width: u64 = 684;
+    for parent in 0..=site.link_count() {
         let node = parent as u8;
-        let wide = panel_width(child_count(site, node), frame_under(site, node) as u32);
-        if width < wide {
-            width = wide;
-        }
-        parent += 1;
+        let slots = u32::from(frame_under(site, node));
+        width = width.max(panel_width(child_count(site, node), slots));
     }
     width
 }

@@ -1,180 +1,174 @@
-// The rows, put into a borrowed slice.
-ghost use Rattle.std.specs.Prelude.{◌≡◌, ◌≤◌};
+// The rows, put on a page.
+ghost use Rattle.std.specs.Prelude.{◌≡◌, ◌≤◌, [], ◌∷◌};
 ghost use Rattle.lists.specs.Lists.{joined};
-ghost use Rattle.text.specs.Put.{puts};
+ghost use Rattle.text.specs.Decimal.{decimal};
+ghost use Rattle.text.specs.Letters.{letters};
+ghost use Rattle.text.specs.Page.{Adds};
 ghost use Rattle.chart_rows.specs.Scale.{slots_shown, middle};
 ghost use Rattle.chart_rows.specs.Rows.{number, number_if, axis, bar_filled as filled·, bar, fill, load_text, row_slots, name, path, link_row, idle_name, idle_row};
 
 use crate::scale::{number_step, shown_of, slot_width};
 use frames::{put_idle_marks, put_link_marks};
 use site::Site;
+use text::Page;
 use tree::value_of;
 
-fn put_number(out: &mut [u8], at: usize, x: u64, y: u64, slot: u32) -> usize
-    ensures { (result, out.new) ≡ puts (at, out.old) (number x y slot) }
+#[tactic(auto, unfolding(text::specs::Put::puts, crate::specs::Rows::number))]
+fn put_number(page: &mut Page, x: u64, y: u64, slot: u32)
+    ensures { Adds page.old page.new (number x y slot) }
 {
-    let left = text::put_field(out, at, b"<text x=\"", x);
-    let low = text::put_field(out, left, b"\" y=\"", y);
-    let named = text::put_field(out, low, b"\">", slot as u64);
-    slices::put(out, named, b"</text>")
+    page.put_field(b"<text x=\"", x);
+    page.put_field(b"\" y=\"", y);
+    page.put_field(b"\">", u64::from(slot));
+    page.put(b"</text>");
 }
 
+#[tactic(auto, using(crate::proofs::Laws::Scale::place_most), unfolding(crate::specs::Scale::middle))]
 fn middle_of(width: u32, slot: u32) -> u64
     requires { width ≤ 28 }
     ensures { result ≡ middle width slot }
 {
-    424 + width as u64 / 2 + width as u64 * slot as u64
+    424 + u64::from(width) / 2 + u64::from(width) * u64::from(slot)
 }
 
-fn put_numbers(out: &mut [u8], at: usize, y: u64, slots: u32) -> usize
-    ensures { (result, out.new) ≡ puts (at, out.old) (joined (number_if slots y) (slots_shown slots) 0) }
+#[tactic(auto, using(report_lines::proofs::Laws::Lines::lines, crate::proofs::Laws::Rows::number_here, crate::proofs::Laws::Rows::number_none, crate::proofs::Laws::Scale::scale_rules), unfolding(text::specs::Put::puts))]
+fn put_numbers(page: &mut Page, y: u64, slots: u32)
+    ensures { Adds page.old page.new (joined (number_if slots y) (slots_shown slots) 0) }
 {
-    let some = shown_of(slots);
     let width = slot_width(slots);
     let step = number_step(slots);
-    let mut taken = at;
-    let mut slot = 0;
-    while slot < some {
+    for slot in 0..shown_of(slots) {
         if slot % step == 0 {
-            taken = put_number(out, taken, middle_of(width, slot), y, slot);
+            put_number(page, middle_of(width, slot), y, slot);
         }
-        slot += 1;
     }
-    taken
 }
 
-pub fn put_axis(out: &mut [u8], at: usize, y: u64, slots: u32) -> usize
-    ensures { (result, out.new) ≡ puts (at, out.old) (axis y slots) }
+#[tactic(auto, using(text::proofs::Laws::Put::puts_append), unfolding(text::specs::Put::puts, crate::specs::Rows::axis))]
+pub fn put_axis(page: &mut Page, y: u64, slots: u32)
+    ensures { Adds page.old page.new (axis y slots) }
 {
-    let begun = slices::put(out, at, b"<g class=\"numbers\">");
-    let numbered = put_numbers(out, begun, y, slots);
-    slices::put(out, numbered, b"</g>\n")
+    page.put(b"<g class=\"numbers\">");
+    put_numbers(page, y, slots);
+    page.put(b"</g>\n");
 }
 
+// A link without capacity counts as full, and any load shows one pixel at least.
+#[tactic(auto, using(crate::proofs::Laws::Rows::filled_rules))]
 fn filled(load: u32, capacity: u16) -> u64
     ensures { result ≡ filled· load capacity }
 {
-    if capacity == 0 {
-        return 80;
+    let load = u64::from(load);
+    match (80 * load).checked_div(u64::from(capacity)) {
+        Some(pixels) => pixels.max(load.min(1)).min(80),
+        None => 80,
     }
-    let pixels = 80 * load as u64 / capacity as u64;
-    if 80 < pixels {
-        return 80;
-    }
-    if pixels == 0 {
-        if 0 < load {
-            return 1;
-        }
-    }
-    pixels
 }
 
-fn put_bar(out: &mut [u8], at: usize, class: &[u8], pixels: u64) -> usize
-    ensures { (result, out.new) ≡ puts (at, out.old) (bar class.now pixels) }
+#[tactic(auto, unfolding(text::specs::Put::puts, crate::specs::Rows::bar))]
+fn put_bar(page: &mut Page, class: &[u8], pixels: u64)
+    ensures { Adds page.old page.new (bar class.now pixels) }
 {
-    let begun = slices::put(out, at, b"<rect class=\"");
-    let named = slices::put(out, begun, class);
-    let wide = text::put_field(out, named, b"\" x=\"216\" y=\"6\" width=\"", pixels);
-    slices::put(out, wide, b"\" height=\"9\"/>")
+    page.put(b"<rect class=\"");
+    page.put(class);
+    page.put_field(b"\" x=\"216\" y=\"6\" width=\"", pixels);
+    page.put(b"\" height=\"9\"/>");
 }
 
-fn put_fill(out: &mut [u8], at: usize, load: u32, capacity: u16) -> usize
-    ensures { (result, out.new) ≡ puts (at, out.old) (fill load capacity) }
+#[tactic(auto, unfolding(crate::specs::Rows::fill))]
+fn put_fill(page: &mut Page, load: u32, capacity: u16)
+    ensures { Adds page.old page.new (fill load capacity) }
 {
     let pixels = filled(load, capacity);
-    if 9 * capacity as u64 <= 10 * load as u64 {
-        return put_bar(out, at, b"full", pixels);
+    if 9 * u64::from(capacity) <= 10 * u64::from(load) {
+        put_bar(page, b"full", pixels);
+    } else {
+        put_bar(page, b"load", pixels);
     }
-    put_bar(out, at, b"load", pixels)
 }
 
-fn put_load(out: &mut [u8], at: usize, load: u32, capacity: u16) -> usize
-    ensures { (result, out.new) ≡ puts (at, out.old) (load_text load capacity) }
+#[tactic(auto, unfolding(text::specs::Put::puts))]
+fn put_figures(page: &mut Page, load: u32, capacity: u16)
+    ensures { Adds page.old page.new (letters "<text class=\"end\" x=\"404\" y=\"14\">" ∷ decimal load ∷ letters " of " ∷ decimal capacity ∷ letters "</text>\n" ∷ []) }
 {
-    let room = put_bar(out, at, b"room", 80);
-    let drawn = put_fill(out, room, load, capacity);
-    let kept = text::put_field(
-        out,
-        drawn,
-        b"<text class=\"end\" x=\"404\" y=\"14\">",
-        load as u64,
-    );
-    let whole = text::put_field(out, kept, b" of ", capacity as u64);
-    slices::put(out, whole, b"</text>\n")
+    page.put_field(b"<text class=\"end\" x=\"404\" y=\"14\">", u64::from(load));
+    page.put_field(b" of ", u64::from(capacity));
+    page.put(b"</text>\n");
 }
 
-fn put_slots(out: &mut [u8], at: usize, offset: u16, period: u16) -> usize
-    ensures { (result, out.new) ≡ puts (at, out.old) (row_slots offset period) }
+#[tactic(auto, using(text::proofs::Laws::Put::puts_append), unfolding(text::specs::Put::puts, crate::specs::Rows::load_text))]
+fn put_load(page: &mut Page, load: u32, capacity: u16)
+    ensures { Adds page.old page.new (load_text load capacity) }
 {
-    let begun = text::put_field(
-        out,
-        at,
+    put_bar(page, b"room", 80);
+    put_fill(page, load, capacity);
+    put_figures(page, load, capacity);
+}
+
+#[tactic(auto, unfolding(text::specs::Put::puts, crate::specs::Rows::row_slots))]
+fn put_slots(page: &mut Page, offset: u16, period: u16)
+    ensures { Adds page.old page.new (row_slots offset period) }
+{
+    page.put_field(
         b"<text class=\"grey\" x=\"76\" y=\"14\" font-size=\"11\">from ",
-        offset as u64,
+        u64::from(offset),
     );
-    let again = text::put_field(out, begun, b" every ", period as u64);
-    slices::put(out, again, b"</text>\n")
+    page.put_field(b" every ", u64::from(period));
+    page.put(b"</text>\n");
 }
 
-fn put_name(out: &mut [u8], at: usize, node: u8, y: u64) -> usize
-    ensures { (result, out.new) ≡ puts (at, out.old) (name node y) }
+#[tactic(auto, unfolding(text::specs::Put::puts, crate::specs::Rows::name))]
+fn put_name(page: &mut Page, node: u8, y: u64)
+    ensures { Adds page.old page.new (name node y) }
 {
-    let begun = text::put_field(out, at, b"<g id=\"link", node as u64);
-    let low = text::put_field(out, begun, b"\" transform=\"translate(0 ", y);
-    let named = text::put_field(out, low, b")\"><text x=\"24\" y=\"14\">link ", node as u64);
-    slices::put(out, named, b"</text>")
+    page.put_field(b"<g id=\"link", u64::from(node));
+    page.put_field(b"\" transform=\"translate(0 ", y);
+    page.put_field(b")\"><text x=\"24\" y=\"14\">link ", u64::from(node));
+    page.put(b"</text>");
 }
 
-fn put_path(out: &mut [u8], at: usize, class: &[u8], width: u32) -> usize
-    ensures { (result, out.new) ≡ puts (at, out.old) (path class.now width) }
+#[tactic(auto, unfolding(text::specs::Put::puts, crate::specs::Rows::path))]
+fn put_path(page: &mut Page, class: &[u8], width: u32)
+    ensures { Adds page.old page.new (path class.now width) }
 {
-    let begun = slices::put(out, at, b"<path class=\"");
-    let named = slices::put(out, begun, class);
-    let scaled = text::put_field(
-        out,
-        named,
-        b"\" transform=\"translate(424 10) scale(",
-        width as u64,
-    );
-    slices::put(out, scaled, b" 12)\" d=\"")
+    page.put(b"<path class=\"");
+    page.put(class);
+    page.put_field(b"\" transform=\"translate(424 10) scale(", u64::from(width));
+    page.put(b" 12)\" d=\"");
 }
 
 // The load is handed over, since one walk over the flows gives those of all links.
-pub fn put_link(
-    out: &mut [u8],
-    at: usize,
-    site: Site,
-    node: u8,
-    y: u64,
-    load: u32,
-    slots: u32,
-) -> usize
-    ensures { (result, out.new) ≡ puts (at, out.old) (link_row site node y load slots) }
+#[tactic(auto, using(text::proofs::Laws::Put::puts_append), unfolding(text::specs::Put::puts, crate::specs::Rows::link_row, crate::specs::Rows::row_end))]
+pub fn put_link(page: &mut Page, site: &Site, node: u8, y: u64, load: u32, slots: u32)
+    ensures { Adds page.old page.new (link_row site.now node y load slots) }
 {
-    let offset = value_of(&site.offsets, node);
-    let period = value_of(&site.periods, node);
-    let capacity = value_of(&site.capacities, node);
-    let named = put_name(out, at, node, y);
-    let timed = put_slots(out, named, offset, period);
-    let loaded = put_load(out, timed, load, capacity);
-    let drawn = put_path(out, loaded, b"sends", slot_width(slots));
-    let marked = put_link_marks(out, drawn, site, node, shown_of(slots));
-    slices::put(out, marked, b"\"/></g>\n")
+    put_name(page, node, y);
+    put_slots(
+        page,
+        value_of(&site.offsets, node),
+        value_of(&site.periods, node),
+    );
+    put_load(page, load, value_of(&site.capacities, node));
+    put_path(page, b"sends", slot_width(slots));
+    put_link_marks(page, site, node, shown_of(slots));
+    page.put(b"\"/></g>\n");
 }
 
-fn put_idle_name(out: &mut [u8], at: usize, parent: u8, y: u64) -> usize
-    ensures { (result, out.new) ≡ puts (at, out.old) (idle_name parent y) }
+#[tactic(auto, unfolding(text::specs::Put::puts, crate::specs::Rows::idle_name))]
+fn put_idle_name(page: &mut Page, parent: u8, y: u64)
+    ensures { Adds page.old page.new (idle_name parent y) }
 {
-    let begun = text::put_field(out, at, b"<g id=\"idle", parent as u64);
-    let low = text::put_field(out, begun, b"\" class=\"grey\" transform=\"translate(0 ", y);
-    slices::put(out, low, b")\"><text x=\"24\" y=\"14\">idle</text>\n")
+    page.put_field(b"<g id=\"idle", u64::from(parent));
+    page.put_field(b"\" class=\"grey\" transform=\"translate(0 ", y);
+    page.put(b")\"><text x=\"24\" y=\"14\">idle</text>\n");
 }
 
-pub fn put_idle(out: &mut [u8], at: usize, site: Site, parent: u8, y: u64, slots: u32) -> usize
-    ensures { (result, out.new) ≡ puts (at, out.old) (idle_row site parent y slots) }
+#[tactic(auto, using(text::proofs::Laws::Put::puts_append), unfolding(text::specs::Put::puts, crate::specs::Rows::idle_row, crate::specs::Rows::row_end))]
+pub fn put_idle(page: &mut Page, site: &Site, parent: u8, y: u64, slots: u32)
+    ensures { Adds page.old page.new (idle_row site.now parent y slots) }
 {
-    let named = put_idle_name(out, at, parent, y);
-    let drawn = put_path(out, named, b"idle", slot_width(slots));
-    let marked = put_idle_marks(out, drawn, site, parent, shown_of(slots));
-    slices::put(out, marked, b"\"/></g>\n")
+    put_idle_name(page, parent, y);
+    put_path(page, b"idle", slot_width(slots));
+    put_idle_marks(page, site, parent, shown_of(slots));
+    page.put(b"\"/></g>\n");
 }

@@ -1,26 +1,30 @@
-use mathlib.Core.Path.{sym, ◌∙◌}
+use mathlib.Core.Path.{◌≡◌, refl, sym, ◌∙◌}
 use native.Mathlib.Omega.{arith}
-use Rattle.report_lines.proofs.Laws.Lines.{printed_start, printed_line, printed_none, printed_all, printed_long}
-use Rattle.frames.specs.Marks.{marks}
+use Rattle.lists.specs.Lists.{joined}
+use Rattle.report_lines.proofs.Laws.Lines.{lines}
+use Rattle.text.specs.Put.{puts}
+use Rattle.frames.specs.Marks.{mark, marks}
 use Rattle.frames.proofs.Laws.Slots.{mark_here, mark_none}
 use Rattle.frames.proofs.put_marks.Goals as goal
-use Rattle.frames.proofs.put_marks.Goals.{else-sends_in, then-sends_in}
+use Rattle.frames.proofs.put_marks.Goals.{then-test, else-test}
 
 pub loop-slot-init : goal.loop-slot-init
-loop-slot-init c = (omega arith, printed_start _ _)
+unfolding joined puts
+loop-slot-init g c marked told = (refl, refl)
 
 pub loop-slot-preserved : goal.loop-slot-preserved
-loop-slot-preserved c =
-    let sofar = c.loop-slot.invariant in
-    let test = c.sends_in.ensures in
-    elim c.if-sends_in.branch [
-      | then-sends_in w ↦ (omega arith, printed_line _ _ _ _ sofar.1 _ (mark_here _ _ (sym test ∙ w.if-sends_in.true)) _ _ _ _ w.taken-is w.out-is w.put_mark-taken.ensures)
-      | else-sends_in w ↦ (omega arith, printed_none _ _ _ _ _ sofar.1 (mark_none _ _ (sym test ∙ w.if-sends_in.false)) _ _ w.taken-is w.out-is)
+unfolding puts mark
+loop-slot-preserved g c marked told =
+    let sofar = c.loop-slot.invariant marked told in
+    let here = told _ _ c.test.ensures in
+    elim c.if-test.branch [
+      | then-test w ↦ let is = mark_here marked _ (sym here ∙ w.if-test.true) in grind (arith, lines, sofar, is)
+      | else-test w ↦ let is = mark_none marked _ (sym here ∙ w.if-test.false) in grind (arith, lines, sofar, is)
     ]
-
-pub shape_of-out : goal.shape_of-out
-shape_of-out c = printed_long _ _ _ _ c.loop-slot.invariant.1
 
 pub returns : goal.returns
 unfolding marks
-returns c = printed_all _ _ _ _ _ c.loop-slot.invariant.1 (omega arith)
+returns g c marked told =
+    let all : c.loop-slot.slot ≡ c.args.slots = omega arith in
+    let done = c.loop-slot.invariant marked told in
+    rw (← all) done

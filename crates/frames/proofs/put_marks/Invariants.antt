@@ -1,12 +1,9 @@
--- Right because the marks below the slot are put; slots - slot falls.
-use Prim.Native.Nat.{◌≤◌, ◌-◌}
-use Rattle.slot_rule.specs.Rule.{sends}
-use Rattle.report_lines.proofs.Laws.Lines.{Printed}
+-- Right because the marks of the slots below this one are put, whatever the test is called.
+use Rattle.std.proofs.Common.{◌≡◌, ℕ, Bool}
+use Rattle.lists.specs.Lists.{joined}
+use Rattle.text.specs.Page.{Adds}
 use Rattle.frames.specs.Marks.{mark_if}
 use Rattle.frames.proofs.put_marks.Given as goal
 
 abbrev pub invariant-loop-slot : goal.invariant-loop-slot
-invariant-loop-slot l = (l.slot ≤ l.slots) × Printed (mark_if (sends l.period l.offset)) (l.at, l.initial.out) l.slot (l.taken, l.out)
-
-abbrev pub decreases-loop-slot : goal.decreases-loop-slot
-decreases-loop-slot l = l.slots - l.slot
+invariant-loop-slot g l = (marked : ℕ → Bool) → ((slot : ℕ) (b : Bool) → g.F.Fn.post l.test (slot, tt) b → b ≡ marked slot) → Adds l.initial.page l.page (joined (mark_if marked) l.slot 0)

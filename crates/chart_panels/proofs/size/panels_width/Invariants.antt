@@ -1,12 +1,7 @@
--- Right because the width that the panels of the parents below this one take is known; what is left of the parents falls.
-use Prim.Native.Nat.{◌+◌, ◌-◌, ◌≤◌}
-use mathlib.Core.Path.{◌≡◌}
-use Rattle.site.specs.Sites.{used}
+-- Right because the width of the widest panel of the parents below this one is known.
+use Rattle.std.proofs.Common.{◌≡◌}
 use Rattle.chart_panels.specs.Size.{width_to}
 use Rattle.chart_panels.proofs.size.panels_width.Given as goal
 
 abbrev pub invariant-loop-parent : goal.invariant-loop-parent
-invariant-loop-parent l = (l.links ≤ 63) × (l.links ≡ used l.site.links) × (l.parent ≤ l.links + 1) × (l.width ≡ width_to l.site l.parent)
-
-abbrev pub decreases-loop-parent : goal.decreases-loop-parent
-decreases-loop-parent l = l.links + 1 - l.parent
+invariant-loop-parent l = l.width ≡ width_to l.site l.parent

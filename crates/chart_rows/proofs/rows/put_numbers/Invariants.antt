@@ -1,11 +1,8 @@
--- Right because the numbers below the slot are put; some - slot falls.
-use Prim.Native.Nat.{◌≤◌, ◌-◌}
-use Rattle.report_lines.proofs.Laws.Lines.{Printed}
+-- Right because the numbers of the slots below this one are put.
+use Rattle.lists.specs.Lists.{joined}
+use Rattle.text.specs.Page.{Adds}
 use Rattle.chart_rows.specs.Rows.{number_if}
 use Rattle.chart_rows.proofs.rows.put_numbers.Given as goal
 
 abbrev pub invariant-loop-slot : goal.invariant-loop-slot
-invariant-loop-slot l = (l.slot ≤ l.some) × Printed (number_if l.slots l.y) (l.at, l.initial.out) l.slot (l.taken, l.out)
-
-abbrev pub decreases-loop-slot : goal.decreases-loop-slot
-decreases-loop-slot l = l.some - l.slot
+invariant-loop-slot l = Adds l.initial.page l.page (joined (number_if l.slots l.y) l.slot 0)

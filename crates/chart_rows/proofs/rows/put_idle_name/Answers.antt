@@ -1,9 +1,0 @@
--- Right because the words and numbers are put one behind the other.
-use Rattle.text.proofs.Laws.Put.{puts_one, puts_then}
-use Rattle.chart_rows.specs.Rows.{idle_name}
-use Rattle.chart_rows.proofs.rows.put_idle_name.Goals as goal
-
-pub returns : goal.returns
-unfolding idle_name
-returns c =
-    puts_then _ _ _ _ _ c.put_field-begun.ensures (puts_then _ _ _ _ _ c.put_field-low.ensures (puts_one _ _ _ c.put.ensures))
