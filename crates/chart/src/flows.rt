@@ -1,10 +1,11 @@
 // The table of the flows.
-ghost use Rattle.std.specs.Prelude.{◌≤◌};
+ghost use Rattle.std.specs.Prelude.{◌<◌, ◌≤◌};
 
+use crate::page::print_with;
 use chart_panels::put_stripes;
-use printing::print_front;
 use route_text::put_route;
 use site::Site;
+use text::Page;
 
 pub(crate) fn table_height(flows: u64) -> u64
     requires { flows ≤ 64 }
@@ -13,65 +14,50 @@ pub(crate) fn table_height(flows: u64) -> u64
     66 + 20 * flows
 }
 
-fn put_figures(out: &mut [u8], at: usize, rate: u8, bound: u32, deadline: u16) -> usize {
-    let rated = text::put_field(out, at, b"<text class=\"end\" x=\"440\">", rate as u64);
-    let bounded = text::put_field(
-        out,
-        rated,
-        b"</text><text class=\"end\" x=\"530\">",
-        bound as u64,
-    );
-    let due = text::put_field(
-        out,
-        bounded,
+fn put_number(page: &mut Page, number: u8, y: u64) {
+    page.put_field(b"<g id=\"flow", u64::from(number));
+    page.put_field(b"\" transform=\"translate(0 ", y);
+    page.put_field(b")\"><text class=\"end\" x=\"64\">", u64::from(number));
+}
+
+fn put_way(page: &mut Page, parents: &[u8], entry: u8) {
+    page.put(b"</text><text x=\"88\">");
+    put_route(page, parents, entry);
+    page.put(b"server</text>");
+}
+
+fn put_figures(page: &mut Page, rate: u8, bound: u32, deadline: u16) {
+    page.put_field(b"<text class=\"end\" x=\"440\">", u64::from(rate));
+    page.put_field(b"</text><text class=\"end\" x=\"530\">", u64::from(bound));
+    page.put_field(
         b"</text><text class=\"end\" x=\"650\">",
-        deadline as u64,
+        u64::from(deadline),
     );
-    slices::put(out, due, b"</text>")
+    page.put(b"</text>");
 }
 
-fn put_number(out: &mut [u8], at: usize, number: u8, y: u64) -> usize {
-    let begun = text::put_field(out, at, b"<g id=\"flow", number as u64);
-    let low = text::put_field(out, begun, b"\" transform=\"translate(0 ", y);
-    text::put_field(
-        out,
-        low,
-        b")\"><text class=\"end\" x=\"64\">",
-        number as u64,
-    )
-}
-
-fn put_way(out: &mut [u8], at: usize, parents: &[u8], entry: u8) -> usize {
-    let left = slices::put(out, at, b"</text><text x=\"88\">");
-    let routed = put_route(out, left, parents, entry);
-    slices::put(out, routed, b"server</text>")
-}
-
-fn print_flow(site: Site, number: u8, y: u64)
-    requires { number ≤ 63 }
+fn put_flow(page: &mut Page, site: &Site, number: u8, y: u64)
+    requires { number < 64 }
 {
     let n = number as usize;
-    let entry = site.entries[n];
-    let rate = site.rates[n];
-    let deadline = site.deadlines[n];
-    let bound = bounds::delay_bound(site, number);
-    let mut line = io::buffer();
-    let named = put_number(&mut line, 0, number, y);
-    let routed = put_way(&mut line, named, &site.parents, entry);
-    let told = put_figures(&mut line, routed, rate, bound, deadline);
-    let ended = slices::put(&mut line, told, b"</g>\n");
-    print_front(&line, ended);
+    put_number(page, number, y);
+    put_way(page, &site.parents, site.entries[n]);
+    put_figures(
+        page,
+        site.rates[n],
+        bounds::delay_bound(site, number),
+        site.deadlines[n],
+    );
+    page.put(b"</g>\n");
 }
 
-fn print_flows(site: Site) {
+fn print_flows(site: &Site) {
     let mut y = 58;
-    let mut n = 0;
-    while n < 64 {
-        if site.states[n] == 1 {
-            print_flow(site, n as u8, y);
+    for number in 0..64 {
+        if site.is_live(number) {
+            print_with(|page| put_flow(page, site, number, y));
             y += 20;
         }
-        n += 1;
     }
 }
 
@@ -84,17 +70,15 @@ fn print_columns() {
     );
 }
 
-pub(crate) fn print_table(site: Site, flows: u64, y: u64)
+fn put_table(page: &mut Page, y: u64) {
+    page.put_field(b"<g id=\"flows\" transform=\"translate(0 ", y);
+    page.put(b")\">\n<text class=\"bold\" x=\"24\" y=\"18\" font-size=\"14\">flows</text>\n");
+}
+
+pub(crate) fn print_table(site: &Site, flows: u64, y: u64)
     requires { flows ≤ 64 }
 {
-    let mut line = io::buffer();
-    let low = text::put_field(&mut line, 0, b"<g id=\"flows\" transform=\"translate(0 ", y);
-    let named = slices::put(
-        &mut line,
-        low,
-        b")\">\n<text class=\"bold\" x=\"24\" y=\"18\" font-size=\"14\">flows</text>\n",
-    );
-    print_front(&line, named);
+    print_with(|page| put_table(page, y));
     if flows == 0 {
         io::write_all(
             1,
@@ -102,8 +86,7 @@ pub(crate) fn print_table(site: Site, flows: u64, y: u64)
         );
         return;
     }
-    let striped = put_stripes(&mut line, 0, 636, 44, flows as u32);
-    print_front(&line, striped);
+    print_with(|page| put_stripes(page, 636, 44, flows as u32));
     print_columns();
     print_flows(site);
     io::write_all(1, b"</g>\n");

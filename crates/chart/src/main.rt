@@ -7,7 +7,6 @@ mod panels;
 mod refusals;
 
 use page::{print_head, print_tail};
-use rulings::Verdict;
 use site::Site;
 use std::env::{Env, FillError};
 
@@ -22,29 +21,27 @@ fn print_wired() {
     print_tail();
 }
 
-fn print_site(site: Site) {
+fn print_site(site: &Site) {
     if site.links == 0 {
         print_wired();
         return;
     }
-    let flows = site::flow_count(site);
-    let below = chart_panels::panels_height(site) as u64;
+    let flows = site.flow_count();
+    let below = u64::from(chart_panels::panels_height(site));
     print_head(
         chart_panels::panels_width(site),
         below + flows::table_height(flows),
     );
-    page::print_heading(site.links as u64, flows);
+    page::print_heading(u64::from(site.links), flows);
     panels::print_panels(site);
     flows::print_table(site, flows, below);
     print_tail();
 }
 
 fn print_plan(bytes: &[u8]) {
-    let read = plan_reader::read_plan(bytes);
-    let verdict = read.verdict;
-    match verdict {
-        Verdict::Accepted => print_site(read.site),
-        Verdict::Refused(number, place) => refusals::print_refusal(number, place),
+    match plan_reader::read_site(bytes) {
+        Ok(site) => print_site(&site),
+        Err(refusal) => refusals::print_refusal(refusal),
     }
 }
 

@@ -1,7 +1,17 @@
 // What pictures have in common. Lengths are in pixels. Every line is put together in the 4,096 bytes of `io::buffer`, of which the longest, a row with
 // 128 marks, takes less than half.
 use chart_panels::put_count;
-use printing::print_front;
+use text::Page;
+
+// Prints what is put on a page of its own.
+pub(crate) fn print_with<F: FnOnce(&mut Page)>(put: F)
+    requires { F.IsAlwaysCallable put }
+{
+    let mut line = io::buffer();
+    let mut page = Page::over(&mut line);
+    put(&mut page);
+    printing::print_page(&page);
+}
 
 fn print_style() {
     io::write_all(
@@ -12,24 +22,19 @@ fn print_style() {
     );
 }
 
-// On a white ground of its own, since a viewer may show a dark one.
-pub(crate) fn print_head(width: u64, height: u64) {
-    let mut line = io::buffer();
-    let wide = text::put_field(
-        &mut line,
-        0,
-        b"<svg xmlns=\"http://www.w3.org/2000/svg\" width=\"",
-        width,
-    );
-    let tall = text::put_field(&mut line, wide, b"\" height=\"", height);
-    let seen = text::put_field(&mut line, tall, b"\" viewBox=\"0 0 ", width);
-    let whole = text::put_field(&mut line, seen, b" ", height);
-    let ended = slices::put(
-        &mut line,
-        whole,
+fn put_head(page: &mut Page, width: u64, height: u64) {
+    page.put_field(b"<svg xmlns=\"http://www.w3.org/2000/svg\" width=\"", width);
+    page.put_field(b"\" height=\"", height);
+    page.put_field(b"\" viewBox=\"0 0 ", width);
+    page.put_field(b" ", height);
+    page.put(
         b"\" font-family=\"sans-serif\" font-size=\"12\" fill=\"#20262d\">\n<title>Slot plan</title>\n",
     );
-    print_front(&line, ended);
+}
+
+// On a white ground of its own, since a viewer may show a dark one.
+pub(crate) fn print_head(width: u64, height: u64) {
+    print_with(|page| put_head(page, width, height));
     print_style();
     io::write_all(1, b"<rect width=\"100%\" height=\"100%\" fill=\"#fff\"/>\n");
 }
@@ -48,17 +53,17 @@ fn print_legend() {
     );
 }
 
-pub(crate) fn print_heading(links: u64, flows: u64) {
-    let mut line = io::buffer();
-    let begun = slices::put(
-        &mut line,
-        0,
+fn put_heading(page: &mut Page, links: u64, flows: u64) {
+    page.put(
         b"<text x=\"24\" y=\"36\"><tspan class=\"bold\" font-size=\"20\">Slot plan</tspan> <tspan class=\"grey\" dx=\"12\" font-size=\"14\">",
     );
-    let linked = put_count(&mut line, begun, links, b" link");
-    let parted = slices::put(&mut line, linked, b", ");
-    let flown = put_count(&mut line, parted, flows, b" flow");
-    let ended = slices::put(&mut line, flown, b"</tspan></text>\n");
-    print_front(&line, ended);
+    put_count(page, links, b" link");
+    page.put(b", ");
+    put_count(page, flows, b" flow");
+    page.put(b"</tspan></text>\n");
+}
+
+pub(crate) fn print_heading(links: u64, flows: u64) {
+    print_with(|page| put_heading(page, links, flows));
     print_legend();
 }
