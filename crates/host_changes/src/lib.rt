@@ -2,54 +2,41 @@
 #![tactic(auto)]
 
 ghost use Rattle.std.specs.Prelude.{◌≡◌, ◌≤◌};
-ghost use Rattle.site.specs.declared.Site.{Site};
 ghost use Rattle.admission.specs.Calls.{admit_of, release_of};
 ghost use Rattle.admission.specs.Words.{Admissible, Releasable};
 ghost use Rattle.plan_writer.specs.Write.{plan_bytes, flow_place};
 ghost use Rattle.host_answers.specs.Answers.{told};
 ghost use Rattle.host_changes.specs.Changes.{rewritten, admit_from, release_from};
-ghost use Rattle.host_changes.specs.Inner.{with_counts};
 
-use host_answers::refusal;
-use rulings::Verdict;
-use site::Flow;
+use host_answers::{refusal, refusal_of};
+use rulings::Fault;
+use site::{Flow, Site};
 
-// Where the FLOW of this number stands in the plan of a site with so many links and these states, or would stand: behind all nodes and the live flows below.
-fn place_of(links: u8, states: &[u8; 64], number: u8) -> usize
+// Where the FLOW of this number stands in the plan of the site, or would stand: behind all nodes and the live flows below.
+fn place_of(site: &Site, number: u8) -> usize
     requires { number ≤ 63 }
-    ensures { (s : Site) → result ≡ flow_place (with_counts s links states.now) number }
+    ensures { result ≡ flow_place site.now number }
 {
-    let mut below: u8 = 0;
-    let mut n: u8 = 0;
-    while n < number {
-        if states[n as usize] == 1 {
+    let mut below = 0;
+    for n in 0..number {
+        if site.states[n as usize] == 1 {
             below += 1;
         }
-        n += 1;
     }
-    format::size(1) * links as usize + format::size(2) * below as usize
+    format::size(format::NODE) * site.links as usize + format::size(format::FLOW) * below
 }
 
 // The plan of a site that a flow comes to is the old one with six bytes more: the law `plan_with_flow` of crate `plan_writer`. The cells are cleared last, since
 // too short a slice is to change nothing.
-fn inserted<'a>(
-    links: u8,
-    states: &'a [u8; 64],
-    plan: &[u8],
-    counters: &mut [u32],
-    flow: Flow,
-    out: &mut [u8],
-) -> u64
-    requires { (s : Site) × Admissible (with_counts s links states.now) counters.old flow × (plan_bytes (with_counts s links states.now) ≡ plan.now) }
-    ensures { (s : Site) → Admissible (with_counts s links states.now) counters.old flow
-        → plan_bytes (with_counts s links states.now) ≡ plan.now → (told result, counters.new, out.new)
-        ≡ rewritten (admit_of (with_counts s links states.now) counters.old flow) counters.old out.old }
+fn inserted(site: &Site, plan: &[u8], counters: &mut [u32], flow: Flow, out: &mut [u8]) -> u64
+    requires { Admissible site.now counters.old flow × (plan_bytes site.now ≡ plan.now) }
+    ensures { (told result, counters.new, out.new) ≡ rewritten (admit_of site.now counters.old flow) counters.old out.old }
 {
-    let size = plan.len() + format::size(2);
+    let size = plan.len() + format::size(format::FLOW);
     if out.len() < size {
-        return refusal(1, 0);
+        return refusal_of(Fault::WrongLength);
     }
-    let at = place_of(links, states, flow.number);
+    let at = place_of(site, flow.number);
     let command = plan_writer::flow_command(flow.number, flow.entry, flow.rate, flow.deadline);
     let kept = slices::put(out, 0, &plan[..at]);
     let added = slices::put(out, kept, &command);
@@ -59,25 +46,16 @@ fn inserted<'a>(
 }
 
 // The plan of a site that a flow leaves is the old one with six bytes less: the law `plan_without_flow`.
-fn dropped<'a>(
-    links: u8,
-    states: &'a [u8; 64],
-    plan: &[u8],
-    counters: &mut [u32],
-    number: u8,
-    out: &mut [u8],
-) -> u64
-    requires { (s : Site) × Releasable (with_counts s links states.now) counters.old number × (plan_bytes (with_counts s links states.now) ≡ plan.now) }
-    ensures { (s : Site) → Releasable (with_counts s links states.now) counters.old number
-        → plan_bytes (with_counts s links states.now) ≡ plan.now → (told result, counters.new, out.new)
-        ≡ rewritten (release_of (with_counts s links states.now) counters.old number) counters.old out.old }
+fn dropped(site: &Site, plan: &[u8], counters: &mut [u32], number: u8, out: &mut [u8]) -> u64
+    requires { Releasable site.now counters.old number × (plan_bytes site.now ≡ plan.now) }
+    ensures { (told result, counters.new, out.new) ≡ rewritten (release_of site.now counters.old number) counters.old out.old }
 {
-    let size = plan.len() - format::size(2);
+    let size = plan.len() - format::size(format::FLOW);
     if out.len() < size {
-        return refusal(1, 0);
+        return refusal_of(Fault::WrongLength);
     }
-    let at = place_of(links, states, number);
-    let behind = at + format::size(2);
+    let at = place_of(site, number);
+    let behind = at + format::size(format::FLOW);
     let kept = slices::put(out, 0, &plan[..at]);
     slices::put(out, kept, &plan[behind..]);
     counters::clear_flow(counters, number);
@@ -85,6 +63,7 @@ fn dropped<'a>(
 }
 
 // The operands come one by one, since C has no value of a flow; a plan that reads to no site is 14.
+#[tactic(auto, unfolding(crate::specs::Changes::admit_from, host_answers::specs::Calls::of_length, host_answers::specs::Calls::on_site, host_answers::specs::Calls::by_reading))]
 pub fn admit(
     plan: &[u8],
     counters: &mut [u32],
@@ -98,73 +77,38 @@ pub fn admit(
         ≡ admit_from plan.now counters.old (record { number = number; entry = entry; rate = rate; deadline = deadline }) out.old }
 {
     if counters.len() != 576 {
-        return refusal(1, 0);
+        return refusal_of(Fault::WrongLength);
     }
     let mut loads = [0u32; 63];
-    let read = plan_reader::read_with(plan, &mut loads);
-    let verdict = read.verdict;
-    match verdict {
-        Verdict::Accepted => {
-            let flow = Flow {
-                number,
-                entry,
-                rate,
-                deadline,
-            };
-            let verdict = flow_checks::judge_flow(
-                read.site.links,
-                &read.site.parents,
-                &read.site.capacities,
-                &read.site.periods,
-                &read.site.states,
-                &loads,
-                flow,
-            );
-            match verdict {
-                Verdict::Accepted => {
-                    inserted(
-                        read.site.links,
-                        &read.site.states,
-                        plan,
-                        counters,
-                        flow,
-                        out,
-                    )
-                }
-                Verdict::Refused(number, place) => refusal(number, place),
-            }
-        }
-        Verdict::Refused(_number, _place) => refusal(14, 0),
+    let Ok(site) = plan_reader::read_with(plan, &mut loads) else {
+        return refusal_of(Fault::NoSite);
+    };
+    let flow = Flow {
+        number,
+        entry,
+        rate,
+        deadline,
+    };
+    match flow_checks::judge_flow(&site, &loads, flow) {
+        Ok(()) => inserted(&site, plan, counters, flow, out),
+        Err(refused) => refusal(refused),
     }
 }
 
 // The old bytes stay as they are, so that a host can go back where the slice was too short.
+#[tactic(auto, unfolding(crate::specs::Changes::release_from, host_answers::specs::Calls::of_length, host_answers::specs::Calls::on_site, host_answers::specs::Calls::by_reading))]
 pub fn release(plan: &[u8], counters: &mut [u32], number: u8, out: &mut [u8]) -> u64
     ensures { (told result, counters.new, out.new)
         ≡ release_from plan.now counters.old number out.old }
 {
     if counters.len() != 576 {
-        return refusal(1, 0);
+        return refusal_of(Fault::WrongLength);
     }
-    let read = plan_reader::read_plan(plan);
-    let verdict = read.verdict;
-    match verdict {
-        Verdict::Accepted => {
-            let verdict = flow_checks::judge_number(&read.site.states, number);
-            match verdict {
-                Verdict::Accepted => {
-                    dropped(
-                        read.site.links,
-                        &read.site.states,
-                        plan,
-                        counters,
-                        number,
-                        out,
-                    )
-                }
-                Verdict::Refused(fault, place) => refusal(fault, place),
-            }
-        }
-        Verdict::Refused(_number, _place) => refusal(14, 0),
+    let Ok(site) = plan_reader::read_site(plan) else {
+        return refusal_of(Fault::NoSite);
+    };
+    match flow_checks::judge_number(&site, number) {
+        Ok(()) => dropped(&site, plan, counters, number, out),
+        Err(refused) => refusal(refused),
     }
 }

@@ -8,9 +8,7 @@ use lib.ListN.{length, take, drop, length-append}
 use borrow.Author.Tests.{le-leb, ltb-true}
 use borrow.Author.Rules.{part_to_end}
 use native.Mathlib.Omega.{arith}
-use Rattle.rulings.specs.Outcome.{Ruling, accepted, refused, settled, ruling}
-use Rattle.rulings.specs.declared.Verdict.{Verdict}
-use Rattle.rulings.specs.declared.Verdict.TheVariants.{Accepted}
+use Rattle.rulings.specs.Outcome.{Ruling, accepted, refused, settled}
 use Rattle.site.specs.declared.Site.{Site}
 use Rattle.site.specs.declared.Flow.{Flow}
 use Rattle.site.specs.Sites.{live, with_flow, without_flow}
@@ -21,7 +19,6 @@ use Rattle.slices.specs.Put.{put}
 use Rattle.slices.specs.Written.{handed}
 use Rattle.slices.proofs.Laws.Put.{put_sets, put_then}
 use Rattle.slices.proofs.Laws.Stores.{written_short, written_all}
-use Rattle.judgement.specs.Judge.{with_site}
 use Rattle.site_check.specs.Check.{passes_of}
 use Rattle.site_check.proofs.Laws.{passes_sound, flow_taken}
 use Rattle.counters.specs.Blocks.{with_cells, zeros, cleared}
@@ -40,7 +37,7 @@ use Rattle.admission.specs.Words.{Admissible, Releasable}
 use Rattle.admission.proofs.Laws.{admits_when, releases_when, admission_judged, release_judged, admitted_passes}
 use Rattle.host_answers.specs.Answers.{told, answer_of}
 use Rattle.host_answers.proofs.Laws.Told.{told_value, told_no}
-use Rattle.host_answers.proofs.Laws.Calls.{read_yes, read_standing}
+use Rattle.host_answers.proofs.Laws.Calls.{read_standing}
 use Rattle.host_changes.specs.Changes.{stored_with, rewritten}
 
 -- No link of a way up is above the node that it begins with.
@@ -71,17 +68,13 @@ flow_told s f answer number place e q l m =
     number place (sym e) in
     told_no answer number place q near.0 (omega (arith, near.1))
 
--- What an accepted reading tells of its site: check 14 lets it pass, and the bytes are its plan. v is the verdict.
-pub read_to : (bytes : List ℕ) → Bytes bytes → (v : Verdict) (s : Site) → (ruling v, s) ≡ with_site (read_of bytes) → v ≡ Accepted
-    → (passes_of s ≡ true) × (plan_bytes s ≡ bytes)
-read_to bytes small v s e q = let site = read_yes bytes v s e q in (read_standing bytes small s site, read_written bytes s small site)
+-- What an accepted reading tells of its site: check 14 lets it pass, and the bytes are its plan.
+pub read_to : (bytes : List ℕ) → Bytes bytes → (s : Site) → accepted s ≡ read_of bytes → (passes_of s ≡ true) × (plan_bytes s ≡ bytes)
+read_to bytes small s e = (read_standing bytes small s (sym e), read_written bytes s small (sym e))
 
--- The checks of a flow by the loads that the reading filled in, whose verdict is v.
-pub judged_by : (s : Site) → passes_of s ≡ true → (v : Verdict) (loads old : List ℕ) → v ≡ Accepted → loads ≡ settled (ruling v) (loads_of s) old → (f : Flow) (r : Ruling)
-    → r ≡ flow_ruling_by loads s f → r ≡ flow_ruling s f
-unfolding settled
-judged_by s sound v loads old e q f r w =
-    let own : loads ≡ loads_of s = rw e at q in rw own at w ∙ ruling_by_loads s f ((passes_sound s).0 sound).formed.shape.parents
+-- The checks of a flow by the loads that the reading filled in.
+pub judged_by : (s : Site) → passes_of s ≡ true → (loads : List ℕ) → loads ≡ loads_of s → (f : Flow) (r : Ruling) → r ≡ flow_ruling_by loads s f → r ≡ flow_ruling s f
+judged_by s sound loads own f r w = rw own at w ∙ ruling_by_loads s f ((passes_sound s).0 sound).formed.shape.parents
 
 -- The calls by the checks of their own, on a site that passes check 14, with 576 counters.
 module _ (s : Site) (sound : passes_of s ≡ true) (cs : List ℕ) (counted : length cs ≡ 576) where
@@ -104,9 +97,9 @@ module _ (s : Site) (sound : passes_of s ≡ true) (cs : List ℕ) (counted : le
 -- An accepted change by the bytes of its new plan, of which there are `size`: the slice is too short, or they are put.
 module _ (s next : Site) (cs new out : List ℕ) (r : Ruling) (yes : r ≡ accepted tt) (passes : passes_of next ≡ true) (size : ℕ) (is : size ≡ length (plan_bytes next))
   where
-    change_short : (answer : ℕ) → answer ≡ answer_of (refused 1 0) → length out < size → (told answer, cs, out) ≡ rewritten (change r next s new cs) cs out
+    change_short : length out < size → (refused 1 0, cs, out) ≡ rewritten (change r next s new cs) cs out
     unfolding change settled rewritten stored_with handed
-    change_short answer q l = rw (told_no answer 1 0 q (omega arith) (omega arith), yes, passes, ← written_short (plan_bytes next) out size is l)
+    change_short l = rw (yes, passes, ← written_short (plan_bytes next) out size is l)
 
     change_done : (at : ℕ) (bytes ds : List ℕ) → size ≤ length out → (at, bytes) ≡ put (0, out) (plan_bytes next) → ds ≡ new
         → (told size, ds, bytes) ≡ rewritten (change r next s new cs) cs out
@@ -137,11 +130,10 @@ module _ (s : Site) (cs : List ℕ) (f : Flow) (a : Admissible s cs f) (plan : L
   admit_bytes at command p q =
       rw (part_to_end plan at, append_assoc, p, q, ← are) (sym (plan_with_flow s a.sound.formed.shape f a.good.within.number_most a.free))
 
-  pub admit_short : (answer : ℕ) (out : List ℕ) → answer ≡ answer_of (refused 1 0) → length out < length plan + size_of 2
-      → (told answer, cs, out) ≡ rewritten (admit_of s cs f) cs out
+  pub admit_short : (out : List ℕ) → length out < length plan + size_of 2 → (refused 1 0, cs, out) ≡ rewritten (admit_of s cs f) cs out
   unfolding admit_of
-  admit_short answer out q l =
-      change_short s (with_flow s f) cs _ out _ ((admits_when s cs f).1 a) (admitted_passes s cs f a) (length plan + size_of 2) (admit_size (size_of 2) refl) answer q l
+  admit_short out l =
+      change_short s (with_flow s f) cs _ out _ ((admits_when s cs f).1 a) (admitted_passes s cs f a) (length plan + size_of 2) (admit_size (size_of 2) refl) l
 
   -- The front of the old plan, the command and the rest of the old plan are put one after the other.
   pub admit_done : (m at kept added end : ℕ) (command out front more new ds : List ℕ) → m ≡ size_of 2 → at ≡ flow_place s f.number
@@ -173,11 +165,10 @@ module _ (s : Site) (cs : List ℕ) (n : ℕ) (a : Releasable s cs n) (plan : Li
   gone : passes_of (without_flow s n) ≡ true
   gone = flow_taken s ((passes_sound s).1 a.sound) n
 
-  pub release_short : (answer : ℕ) (out : List ℕ) → answer ≡ answer_of (refused 1 0) → length out < length plan - size_of 2
-      → (told answer, cs, out) ≡ rewritten (release_of s cs n) cs out
+  pub release_short : (out : List ℕ) → length out < length plan - size_of 2 → (refused 1 0, cs, out) ≡ rewritten (release_of s cs n) cs out
   unfolding release_of
-  release_short answer out q l =
-      change_short s (without_flow s n) cs _ out _ ((releases_when s cs n).1 a) gone (length plan - size_of 2) (release_size (size_of 2) refl) answer q l
+  release_short out l =
+      change_short s (without_flow s n) cs _ out _ ((releases_when s cs n).1 a) gone (length plan - size_of 2) (release_size (size_of 2) refl) l
 
   -- The front of the old plan and what stands behind the FLOW are put one after the other; k is the size of a FLOW as m is.
   pub release_done : (m k at kept end : ℕ) (out front new ds : List ℕ) → m ≡ size_of 2 → k ≡ size_of 2 → at ≡ flow_place s n → length plan - m ≤ length out

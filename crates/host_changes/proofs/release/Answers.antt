@@ -1,52 +1,28 @@
 -- Right because 1 and 14 are judged first, and the change is made on the site that the plan is read to, whose plan the lent bytes are.
-use mathlib.Core.Path.{◌≡◌, sym, ◌∙◌, ap}
+use mathlib.Core.Path.{◌≡◌, sym, ◌∙◌}
 use mathlib.Core.Bool.{true}
 use native.Mathlib.Omega.{arith}
-use Rattle.rulings.specs.Outcome.{ruling}
 use Rattle.site_check.specs.Check.{passes_of}
 use Rattle.plan_writer.specs.Write.{plan_bytes}
 use Rattle.host_answers.proofs.Laws.Told.{told_no, number_tellable}
-use Rattle.host_answers.proofs.Laws.Calls.{on_yes, on_no, of_length_lem, off_length}
+use Rattle.host_answers.proofs.Laws.Calls.{on_yes, of_length_lem}
 use Rattle.host_changes.specs.Changes.{release_from}
 use Rattle.host_changes.proofs.Laws.Changes.{read_to, releasable, release_no}
 use Rattle.host_changes.proofs.release.Goals as goal
 
-pub returns-then-counters-ne576 : goal.returns-then-counters-ne576
-unfolding release_from
-returns-then-counters-ne576 c = rw (told_no _ _ _ c.refusal.ensures (omega arith) (omega arith)) (off_length _ _ _ _ c.if-counters-ne576.true)
-
 pub dropped-requires : goal.dropped-requires
 dropped-requires c =
-    let known : (passes_of c.read_plan-read.result.site ≡ true) × (plan_bytes c.read_plan-read.result.site ≡ c.args.plan.now) = read_to _ (λ i. omega (arith, c.shared_slice_known-1.given i)) _ _ c.read_plan-read.ensures c.in-Accepted.is in
-    let site = c.read_plan-read.result.site in (
-      site,
-      releasable _ known.0 _ c.if-counters-ne576.false _
-          (sym (ap ruling c.in-Accepted-verdict.is) ∙ c.judge_number-verdict.ensures site),
-      known.1,
-    )
+    let known : (passes_of c.in-Ok.site ≡ true) × (plan_bytes c.in-Ok.site ≡ c.args.plan.now) = read_to _ (λ i. omega (arith, c.type_inv.plan i)) _ c.in-Ok.ensures in
+    (releasable _ known.0 _ c.if-counters-ne576.false _ c.in-Ok-judge_number.ensures, known.1)
 
-pub returns-in-Accepted-verdict : goal.returns-in-Accepted-verdict
+pub returns-in-Ok-judge_number : goal.returns-in-Ok-judge_number
 unfolding release_from
-returns-in-Accepted-verdict c =
-    let known : (passes_of c.read_plan-read.result.site ≡ true) × (plan_bytes c.read_plan-read.result.site ≡ c.args.plan.now) = read_to _ (λ i. omega (arith, c.shared_slice_known-1.given i)) _ _ c.read_plan-read.ensures c.in-Accepted.is in
-    let site = c.read_plan-read.result.site in
-    let yes = sym (ap ruling c.in-Accepted-verdict.is) ∙ c.judge_number-verdict.ensures site in
-    c.dropped.ensures site (releasable _ known.0 _ c.if-counters-ne576.false _ yes) known.1
-    ∙ on_yes _ _ _ c.read_plan-read.ensures _ _ c.in-Accepted.is ∙ of_length_lem _ _ _ _ c.if-counters-ne576.false
+returns-in-Ok-judge_number c = c.dropped.ensures ∙ on_yes _ _ _ _ c.in-Ok.ensures ∙ of_length_lem _ _ _ _ c.if-counters-ne576.false
 
-pub returns-in-Refused-verdict : goal.returns-in-Refused-verdict
+pub returns-in-Err : goal.returns-in-Err
 unfolding release_from
-returns-in-Refused-verdict c =
-    let known : (passes_of c.read_plan-read.result.site ≡ true) × (plan_bytes c.read_plan-read.result.site ≡ c.args.plan.now) = read_to _ (λ i. omega (arith, c.shared_slice_known-1.given i)) _ _ c.read_plan-read.ensures c.in-Accepted.is in
-    let site = c.read_plan-read.result.site in
-    let no = sym (ap ruling c.in-Refused-verdict.is) ∙ c.judge_number-verdict.ensures site in
-    let room = (number_tellable site c.args.number (omega arith)).near _ _ (sym no) in
-    rw (told_no _ _ _ c.refusal-in-Refused-verdict.ensures room.0 room.1)
-    (release_no _ known.0 _ c.if-counters-ne576.false _ _ _ _ no
-    ∙ on_yes _ _ _ c.read_plan-read.ensures _ _ c.in-Accepted.is ∙ of_length_lem _ _ _ _ c.if-counters-ne576.false)
-
-pub returns-in-Refused : goal.returns-in-Refused
-unfolding release_from
-returns-in-Refused c =
-    rw (told_no _ _ _ c.refusal-in-Refused.ensures (omega arith) (omega arith))
-    (on_no _ _ _ c.read_plan-read.ensures _ _ _ _ c.in-Refused.is ∙ of_length_lem _ _ _ _ c.if-counters-ne576.false)
+returns-in-Err c =
+    let known : (passes_of c.in-Ok.site ≡ true) × (plan_bytes c.in-Ok.site ≡ c.args.plan.now) = read_to _ (λ i. omega (arith, c.type_inv.plan i)) _ c.in-Ok.ensures in
+    let room = (number_tellable c.in-Ok.site c.args.number (omega arith)).near _ _ (sym c.in-Err.ensures) in
+    rw (told_no _ _ _ c.refusal.ensures room.0 room.1)
+    (release_no _ known.0 _ c.if-counters-ne576.false _ _ _ _ c.in-Err.ensures ∙ on_yes _ _ _ _ c.in-Ok.ensures ∙ of_length_lem _ _ _ _ c.if-counters-ne576.false)
