@@ -26,10 +26,36 @@ impl Schedule {
     }
 
     // 02, U1: whether some schedule file reads to this schedule.
+    #[tactic(auto, unfolding(crate::specs::Check::schedule_passes))]
     pub fn passes(&self) -> bool
         ensures { result ≡ schedule_passes self.now }
     {
-        lists_pass(self.links, &self.offsets, &self.periods)
+        if 63 < self.links {
+            return false;
+        }
+        !self.slots_bad() && !self.rest_used()
+    }
+
+    // Whether some link's slots are not within their limits.
+    fn slots_bad(&self) -> bool
+        ensures { result ≡ list_any (λ p. bad_slots p.0 p.1) (take self.now.links (zip self.now.offsets self.now.periods)) }
+    {
+        self.offsets
+            .iter()
+            .zip(&self.periods)
+            .take(self.links as usize)
+            .any(|(offset, period)| bad_slots(*offset, *period))
+    }
+
+    // Whether something stands past the last link.
+    fn rest_used(&self) -> bool
+        ensures { result ≡ list_any (λ p. in_use p.0 p.1) (drop self.now.links (zip self.now.offsets self.now.periods)) }
+    {
+        self.offsets
+            .iter()
+            .zip(&self.periods)
+            .skip(self.links as usize)
+            .any(|(offset, period)| in_use(*offset, *period))
     }
 }
 
@@ -41,17 +67,6 @@ pub fn bad_slots(offset: u16, period: u16) -> bool
     1024 < period || period <= offset
 }
 
-// Whether some link's slots are not within their limits.
-fn slots_bad(links: u8, offsets: &[u16], periods: &[u16]) -> bool
-    ensures { result ≡ list_any (λ p. bad_slots p.0 p.1) (take links (zip offsets.now periods.now)) }
-{
-    offsets
-        .iter()
-        .zip(periods)
-        .take(links as usize)
-        .any(|(offset, period)| bad_slots(*offset, *period))
-}
-
 #[tactic(auto, unfolding(crate::specs::Check::in_use))]
 fn in_use(offset: u16, period: u16) -> bool
     ensures { result ≡ in_use offset period }
@@ -59,23 +74,18 @@ fn in_use(offset: u16, period: u16) -> bool
     offset != 0 || period != 0
 }
 
-// Whether something stands past the last link.
-fn rest_used(links: u8, offsets: &[u16], periods: &[u16]) -> bool
-    ensures { result ≡ list_any (λ p. in_use p.0 p.1) (drop links (zip offsets.now periods.now)) }
-{
-    offsets
-        .iter()
-        .zip(periods)
-        .skip(links as usize)
-        .any(|(offset, period)| in_use(*offset, *period))
-}
-
-// The same of lists that are lent, of another length too.
+// The same of lists that are lent. One that has not 63 entries is no schedule's.
+#[tactic(auto, unfolding(crate::specs::Check::schedule_passes))]
 pub fn lists_pass(links: u8, offsets: &[u16], periods: &[u16]) -> bool
     ensures { result ≡ schedule_passes (of_lists links offsets.now periods.now) }
 {
-    if offsets.len() != 63 || periods.len() != 63 || 63 < links {
+    let (Some(offsets), Some(periods)) = (offsets.as_array(), periods.as_array()) else {
         return false;
-    }
-    !slots_bad(links, offsets, periods) && !rest_used(links, offsets, periods)
+    };
+    let schedule = Schedule {
+        links,
+        offsets: *offsets,
+        periods: *periods,
+    };
+    schedule.passes()
 }

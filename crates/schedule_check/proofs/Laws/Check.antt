@@ -10,7 +10,7 @@ use lib.Seq.{drop-cons, take_all}
 use native.Mathlib.Numerals.{add-one}
 use Rattle.std.proofs.lemmas.Slice.Zip.{length-zip, get_or-zip}
 use Rattle.std.specs.List.{list_any, zip}
-use borrow.Author.Tests.{le-leb, lt-leb, eq-eqb, ne_eqb, eqb-true, not-false}
+use borrow.Author.Tests.{le-leb, eq-eqb, eqb-true, not-false}
 use native.Mathlib.Omega.{arith}
 use Rattle.lists.specs.Search.{any}
 use Rattle.lists.proofs.Laws.Search.{lt_or_le, any_none, any_some}
@@ -71,42 +71,28 @@ module _ (s : Schedule) where
   abbrev used : ℕ → Bool
   used = used_at s.offsets s.periods
 
-  -- The answers of the check.
-  pub passes_offsets : (length s.offsets ≡ 63 → ⊥) → false ≡ schedule_passes s
-  unfolding schedule_passes
-  passes_offsets n = rw (ne_eqb _ _ n)
+  -- The two walks of the check on lists of 63 entries, and its answers.
+  module _ (offsets_long : length s.offsets ≡ 63) (periods_long : length s.periods ≡ 63) (few : s.links ≤ 63) where
+    slots_walked : list_any (λ p. bad_slots p.0 p.1) (take s.links (zip s.offsets s.periods)) ≡ any bad s.links 0
+    slots_walked = sym (any_pairs bad_slots s.offsets s.periods s.links 0 (omega arith) (omega arith))
 
-  module _ (offsets_long : length s.offsets ≡ 63) where
-    pub passes_periods : (length s.periods ≡ 63 → ⊥) → false ≡ schedule_passes s
-    unfolding schedule_passes
-    passes_periods n = rw (eq-eqb _ _ offsets_long, ne_eqb _ _ n)
+    rest_walked : list_any (λ p. in_use p.0 p.1) (drop s.links (zip s.offsets s.periods)) ≡ any used (63 - s.links) s.links
+    rest_walked =
+        let long : length (drop s.links (zip s.offsets s.periods)) ≤ 63 - s.links =
+        omega (arith, length-drop s.links (zip s.offsets s.periods), length-zip s.offsets s.periods) in
+        sym (any_pairs in_use s.offsets s.periods (63 - s.links) s.links (omega arith) (omega arith)
+        ∙ ap (list_any (pair_test in_use)) (take_all (63 - s.links) (drop s.links (zip s.offsets s.periods)) long))
 
-    module _ (periods_long : length s.periods ≡ 63) where
-      pub passes_many : 63 < s.links → false ≡ schedule_passes s
+    -- r stands for what the first walk finds.
+    module _ (r : Bool) (slots : r ≡ list_any (λ p. bad_slots p.0 p.1) (take s.links (zip s.offsets s.periods))) where
+      pub passes_bad : r ≡ true → false ≡ schedule_passes s
       unfolding schedule_passes
-      passes_many l = rw (eq-eqb _ _ offsets_long, eq-eqb _ _ periods_long, lt-leb _ _ l)
+      passes_bad e = rw (eq-eqb _ _ offsets_long, eq-eqb _ _ periods_long, le-leb _ _ few, ← slots_walked, ← slots, e)
 
-      module _ (few : s.links ≤ 63) where
-        slots_walked : list_any (λ p. bad_slots p.0 p.1) (take s.links (zip s.offsets s.periods)) ≡ any bad s.links 0
-        slots_walked = sym (any_pairs bad_slots s.offsets s.periods s.links 0 (omega arith) (omega arith))
-
-        rest_walked : list_any (λ p. in_use p.0 p.1) (drop s.links (zip s.offsets s.periods)) ≡ any used (63 - s.links) s.links
-        rest_walked =
-            let long : length (drop s.links (zip s.offsets s.periods)) ≤ 63 - s.links =
-            omega (arith, length-drop s.links (zip s.offsets s.periods), length-zip s.offsets s.periods) in
-            sym (any_pairs in_use s.offsets s.periods (63 - s.links) s.links (omega arith) (omega arith)
-            ∙ ap (list_any (pair_test in_use)) (take_all (63 - s.links) (drop s.links (zip s.offsets s.periods)) long))
-
-        -- r stands for what the first walk finds.
-        module _ (r : Bool) (slots : r ≡ list_any (λ p. bad_slots p.0 p.1) (take s.links (zip s.offsets s.periods))) where
-          pub passes_bad : r ≡ true → false ≡ schedule_passes s
-          unfolding schedule_passes
-          passes_bad e = rw (eq-eqb _ _ offsets_long, eq-eqb _ _ periods_long, le-leb _ _ few, ← slots_walked, ← slots, e)
-
-          pub passes_rest : r ≡ false → (u : Bool) → u ≡ list_any (λ p. in_use p.0 p.1) (drop s.links (zip s.offsets s.periods)) → not u ≡ schedule_passes s
-          unfolding schedule_passes
-          passes_rest e u rest =
-              rw (eq-eqb _ _ offsets_long, eq-eqb _ _ periods_long, le-leb _ _ few, ← slots_walked, ← rest_walked, ← slots, ← rest, e)
+      pub passes_rest : r ≡ false → (u : Bool) → u ≡ list_any (λ p. in_use p.0 p.1) (drop s.links (zip s.offsets s.periods)) → not u ≡ schedule_passes s
+      unfolding schedule_passes
+      passes_rest e u rest =
+          rw (eq-eqb _ _ offsets_long, eq-eqb _ _ periods_long, le-leb _ _ few, ← slots_walked, ← rest_walked, ← slots, ← rest, e)
 
   -- What they say of all entries.
   pub all_well : length s.offsets ≡ 63 → length s.periods ≡ 63 → s.links ≤ 63 → any bad s.links 0 ≡ false → any used (63 - s.links) s.links ≡ false
