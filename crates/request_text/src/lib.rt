@@ -1,5 +1,5 @@
 // What a planner's line asks for by its name and the numbers behind it: every line but that of a slot.
-#![tactic(auto)]
+#![tactic(auto, using(crate::proofs::Laws::Operands::numbers_all, crate::proofs::Laws::Operands::numbers_not), unfolding(crate::specs::Requests::lone_of, crate::specs::Requests::admit_line, crate::specs::Requests::release_line, crate::specs::Requests::sender_line, crate::specs::Requests::flow_question, crate::specs::Requests::other_of))]
 
 ghost use Rattle.std.specs.Prelude.{◌≡◌, drop};
 ghost use Rattle.line_words.specs.Words.{words_of};
@@ -40,7 +40,6 @@ pub enum Line {
 }
 
 // `start`, `plan`, `schedule`, `show` and `typed` have no operands.
-#[tactic(auto, unfolding(crate::specs::Requests::lone_of))]
 fn lone_line(name: &[u8]) -> Line
     ensures { result ≡ lone_of name.now }
 {
@@ -116,7 +115,6 @@ fn flow_line(name: &[u8], line: &[u8], from: usize) -> Line
 }
 
 // A line of any name but `slot`, whose operands stand from `from` on.
-#[tactic(auto, unfolding(crate::specs::Requests::other_of))]
 pub fn read_request(name: &[u8], line: &[u8], from: usize) -> Line
     ensures { result ≡ other_of name.now (words_of (drop from line.now)) }
 {

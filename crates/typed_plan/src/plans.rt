@@ -12,6 +12,7 @@ use slices::put;
 use typed_line::{Command, read_line};
 
 // 01: NODE and FLOW take six bytes each.
+#[tactic(auto, using(crate::proofs::Laws::Plans::said_long), unfolding(crate::specs::Assemble::piece_of, text::specs::Put::text_of))]
 fn command_size(command: Option<Command>) -> usize
     ensures { (result ≡ length (text_of (piece_of (typed (Ok command))))) × (result ≤ 6) }
 {
@@ -41,6 +42,7 @@ pub(crate) fn check(text: &[u8]) -> Result<usize, AssembleError>
     Ok(size)
 }
 
+#[tactic(auto, unfolding(crate::specs::Assemble::piece_of, text::specs::Put::puts))]
 fn put_command(out: &mut [u8], at: usize, command: Command) -> usize
     ensures { (result, out.new) ≡ puts (at, out.old) (piece_of (command_said command)) }
 {
@@ -60,6 +62,7 @@ fn put_command(out: &mut [u8], at: usize, command: Command) -> usize
     put(out, at, &bytes)
 }
 
+#[tactic(auto, unfolding(crate::specs::Assemble::piece_of, text::specs::Put::puts))]
 fn put_line(out: &mut [u8], at: usize, line: &[u8]) -> usize
     ensures { (result, out.new) ≡ puts (at, out.old) (piece_of (typed_line line.now)) }
 {
