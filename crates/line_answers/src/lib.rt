@@ -1,11 +1,10 @@
 // One line of a rehearsal carried out: the call that it makes or the question that it asks, and the text of its answer.
 #![tactic(auto)]
 
-ghost use Rattle.std.specs.Prelude.{◌≡◌, [], ◌∷◌};
-ghost use Rattle.rulings.specs.Outcome.{ruling};
+ghost use Rattle.std.specs.Prelude.{◌≡◌};
+ghost use Rattle.rulings.specs.Outcome.{outcome};
 ghost use Rattle.moves.specs.Hops.{own};
-ghost use Rattle.text.specs.Letters.{letters};
-ghost use Rattle.text.specs.Put.{puts};
+ghost use Rattle.text.specs.Page.{Adds, held};
 ghost use Rattle.call_text.specs.Lines.{asked_of};
 ghost use Rattle.guarantee.specs.Runs.{Promise};
 ghost use Rattle.line_answers.specs.Steps.{call_of, question_text, answered_to, CarriedAs};
@@ -13,17 +12,11 @@ ghost use Rattle.line_answers.specs.Steps.{call_of, question_text, answered_to, 
 use judgement::Judged;
 use request_text::{Call, Line, Question};
 use site::Site;
-
-// The site after a line, and how many bytes of the space are taken by its answer and those before it.
-#[derive(Clone, Copy)]
-pub struct Answered {
-    pub site: Site,
-    pub filled: usize,
-}
+use text::Page;
 
 // Makes the call on the site and the counters as they are.
 pub fn make_call(call: Call, arrivals: &[u16], site: Site, counters: &mut [u32]) -> Judged
-    ensures { Promise own (call_of call arrivals.now) (record { site = site; counters = counters.old }) (ruling result.verdict)
+    ensures { Promise own (call_of call arrivals.now) (record { site = site; counters = counters.old }) (outcome result.verdict)
         (record { site = result.site; counters = counters.new }) }
 {
     match call {
@@ -40,80 +33,59 @@ pub fn make_call(call: Call, arrivals: &[u16], site: Site, counters: &mut [u32])
     }
 }
 
-fn end_line(out: &mut [u8], at: usize) -> usize
-    ensures { (result, out.new) ≡ puts (at, out.old) (letters "\n" ∷ []) }
-{
-    slices::put(out, at, b"\n")
-}
-
 // Puts the answer to a question.
-pub fn put_answer(
-    out: &mut [u8],
-    at: usize,
-    question: Question,
-    site: Site,
-    counters: &[u32],
-) -> usize
-    ensures { (result, out.new) ≡ puts (at, out.old) (question_text question site counters.now) }
+#[tactic(auto, using(text::proofs::Laws::Put::puts_append), unfolding(text::specs::Put::puts, crate::specs::Steps::question_text))]
+pub fn put_answer(page: &mut Page<'_>, question: Question, site: &Site, counters: &[u32])
+    ensures { Adds page.old page.new (question_text question site.now counters.now) }
 {
     match question {
         Question::Sender(parent, slot) => {
-            let lookup = sender::sender(site, parent, slot);
-            let told = call_answers::put_lookup(out, at, lookup);
-            end_line(out, told)
+            call_answers::put_lookup(page, sender::sender(*site, parent, slot));
+            page.put(b"\n");
         }
         Question::Cells(number) => {
-            let told = call_answers::put_cells(out, at, counters, number);
-            end_line(out, told)
+            call_answers::put_cells(page, counters, number);
+            page.put(b"\n");
         }
         Question::Bound(number) => {
-            let told = call_answers::put_bound(out, at, site, number);
-            end_line(out, told)
+            call_answers::put_bound(page, site, number);
+            page.put(b"\n");
         }
         Question::Plan => {
-            let told = call_answers::put_plan(out, at, site);
-            end_line(out, told)
+            call_answers::put_plan(page, site);
+            page.put(b"\n");
         }
         Question::Schedule => {
-            let told = call_answers::put_schedule(out, at, site);
-            end_line(out, told)
+            call_answers::put_schedule(page, site);
+            page.put(b"\n");
         }
-        Question::Show => site_report::put_site(out, at, site),
-        Question::Typed => plan_listing::put_plan(out, at, site),
+        Question::Show => site_report::put_site(page, site),
+        Question::Typed => plan_listing::put_plan(page, site),
     }
 }
 
-// Carries out a line and puts its answer behind what stands in the space.
-pub fn answer_line(
-    line: &[u8],
-    site: Site,
-    counters: &mut [u32],
-    out: &mut [u8],
-    at: usize,
-) -> Answered
-    ensures { CarriedAs (answered_to (asked_of line.now) (record { site = site; counters = counters.old }))
-        (record { site = result.site; counters = counters.new }) (at, out.old) (result.filled, out.new) }
+// Carries out a line and puts its answer behind what the page holds. Answers the site that is left.
+pub fn answer_line(line: &[u8], site: Site, counters: &mut [u32], page: &mut Page<'_>) -> Site
+    ensures same_space { page.new.space.ghost_name ≡ page.old.space.ghost_name }
+    ensures carried { CarriedAs (answered_to (asked_of line.now) (record { site = site; counters = counters.old }))
+        (record { site = result; counters = counters.new }) (held page.old) (held page.new) }
 {
     let asked = call_text::read_line(line);
-    let arrivals = asked.arrivals;
-    let read = asked.line;
-    match read {
-        Line::PassedOver => Answered { site, filled: at },
+    match asked.line {
+        Line::PassedOver => site,
         Line::Makes(call) => {
-            let judged = make_call(call, &arrivals, site, counters);
-            let verdict = judged.verdict;
-            let next = judged.site;
-            let told = report_lines::put_verdict(out, at, verdict);
-            let filled = end_line(out, told);
-            Answered { site: next, filled }
+            let judged = make_call(call, &asked.arrivals, site, counters);
+            report_lines::put_verdict(page, judged.verdict);
+            page.put(b"\n");
+            judged.site
         }
         Line::Asks(question) => {
-            let filled = put_answer(out, at, question, site, counters);
-            Answered { site, filled }
+            put_answer(page, question, &site, counters);
+            site
         }
         Line::Malformed => {
-            let filled = slices::put(out, at, b"error\n");
-            Answered { site, filled }
+            page.put(b"error\n");
+            site
         }
     }
 }

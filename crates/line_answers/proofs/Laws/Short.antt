@@ -45,7 +45,7 @@ use Rattle.text.specs.Listed.{each, spaced_decimal}
 use Rattle.text.proofs.Laws.Put.{text_append}
 use Rattle.text.proofs.Laws.Decimal.{decimal_short}
 use Rattle.hexadecimal.specs.Hexadecimal.{hex_of, spaced_hex, hex_text}
-use Rattle.report_lines.specs.Lines.{refusal, refusal_line, verdict_text}
+use Rattle.report_lines.specs.Lines.{refusal_line, verdict_text}
 use Rattle.report_lines.proofs.Laws.Short.{Figure, field, ended, told_short}
 use Rattle.report_lines.proofs.Laws.Figures.{deadline_figure}
 use Rattle.site_report.proofs.Laws.Short.{site_short}
