@@ -7,39 +7,23 @@ use lib.Dec.{eqb, ltb}
 use lib.ListN.{length, get_or}
 use borrow.Author.Tests.{ltb-true, ltb-false}
 use native.Mathlib.Omega.{arith}
-use Rattle.rulings.specs.Outcome.{Outcome, accepted, refused, ruling, given}
-use Rattle.rulings.specs.declared.Verdict.{Verdict}
-use Rattle.rulings.specs.declared.Verdict.TheVariants.{Accepted, Refused}
+use Rattle.rulings.specs.Outcome.{Outcome, accepted, refused}
 use Rattle.lists.specs.Lists.{smallest}
 use Rattle.lists.proofs.Laws.Search.{last_le}
 use Rattle.slot_rule.specs.Rule.{fits, base, periods_of, offsets_of}
 use Rattle.slot_rule.specs.Assign.{first_bad, assigned}
 use Rattle.slot_rule.proofs.Laws.Bases.{smallest_within}
 use Rattle.format.specs.Words.{Bytes}
-use Rattle.schedule_check.specs.declared.Schedule.{Schedule}
-use Rattle.schedule_check.specs.Words.{Listed}
 use Rattle.schedule_reader.specs.Read.{schedule_read}
 use Rattle.plan.proofs.Laws.Near.{schedule_near}
-use Rattle.plan.proofs.Laws.Schedules.{schedule_form}
 use Rattle.host_answers.specs.Answers.{told, answer_of}
 use Rattle.host_answers.proofs.Laws.Told.{told_no, Room, value_room, refusal_room}
 
--- What the reader of schedules answers.
-module _ (bytes : List ℕ) (v : Verdict) (s : Schedule) (e : given (ruling v) s ≡ schedule_read bytes) where
-  pub schedule_yes : v ≡ Accepted → schedule_read bytes ≡ accepted s
-  schedule_yes q = sym (rw q at e)
-
-  pub schedule_no : (number place : ℕ) → v ≡ Refused number place → schedule_read bytes ≡ refused number place
-  schedule_no number place q = sym (rw q at e)
-
-  -- A schedule that was read has lists of 63 entries.
-  pub schedule_listed : Bytes bytes → v ≡ Accepted → Listed s
-  schedule_listed small q = (schedule_form bytes small s (schedule_yes q)).listed
-
-  -- The refusal of a reading, as an answer.
-  pub schedule_told : Bytes bytes → (number place answer : ℕ) → v ≡ Refused number place → answer ≡ answer_of (refused number place) → told answer ≡ refused number place
-  schedule_told small number place answer q r =
-      let near = schedule_near bytes small number place (schedule_no number place q) in told_no answer number place r near.0 (omega (arith, near.1))
+-- The refusal of a reading, as an answer.
+pub schedule_told : (bytes : List ℕ) → Bytes bytes → (number place answer : ℕ) → refused number place ≡ schedule_read bytes
+    → answer ≡ answer_of (refused number place) → told answer ≡ refused number place
+schedule_told bytes small number place answer e r =
+    let near = schedule_near bytes small number place (sym e) in told_no answer number place r near.0 (omega (arith, near.1))
 
 -- A base is at most the first gap, which has 16 bits.
 base_most : (f : ℕ) (gaps : List ℕ) → base f gaps ≤ get_or gaps 0 0
