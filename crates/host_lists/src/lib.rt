@@ -10,7 +10,7 @@ use host_answers::{answer, refusal, refusal_of};
 use rulings::Fault;
 
 // Both lists are filled whole: what stood past the links is no part of a schedule. 1 comes first, so that a list that cannot hold a schedule is told before the
-// file is read.
+// file is read. The reading goes to lists of its own, since a refused one leaves the host's as they are.
 #[tactic(auto, using(crate::proofs::Laws::Ends::schedule_told), unfolding(crate::specs::Lists::schedule_read_from, host_answers::specs::Calls::of_length, host_answers::specs::Calls::by_reading))]
 pub fn read_schedule(file: &[u8], offsets: &mut [u16], periods: &mut [u16]) -> u64
     ensures { (told result, offsets.new, periods.new)
