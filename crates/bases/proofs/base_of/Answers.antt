@@ -2,12 +2,9 @@ use mathlib.Core.Path.{sym, ◌∙◌}
 use Prim.Native.Nat.{◌≤◌}
 use lib.ListN.{length}
 use native.Mathlib.Omega.{arith}
-use Rattle.slot_rule.proofs.Laws.Bases.{smallest_within, tried_start, tried_less, tried_hit, tried_end}
+use Rattle.slot_rule.proofs.Laws.Bases.{smallest_within, tried_less, tried_hit, tried_end}
 use Rattle.bases.proofs.Laws.{base_some, base_nothing}
 use Rattle.bases.proofs.base_of.Goals as goal
-
-pub loop-base-init : goal.loop-base-init
-loop-base-init c = tried_start _ c.if-factor-lt2.false _ _ c.smallest-low.ensures
 
 pub fits-requires : goal.fits-requires
 fits-requires c =

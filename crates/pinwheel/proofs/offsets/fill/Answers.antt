@@ -1,5 +1,4 @@
 use mathlib.Core.Path.{refl, ◌∙◌}
-use native.Mathlib.Omega.{arith}
 use Rattle.lists.proofs.Laws.Search.{some_is, none_is}
 use Rattle.pinwheel.proofs.Laws.Turns.{upto_start, upto_ready, upto_next, upto_end}
 use Rattle.pinwheel.proofs.offsets.fill.Goals as goal
@@ -16,13 +15,6 @@ fill_level-requires c =
     let next = c.in-Some.ensures in
     let is = some_is _ _ next.2 in
     (sofar.long, pre.1, pre.2, rw is.0 (upto_ready _ _ _ _ _ _ _ _ sofar _ next.1 is.1))
-
-pub loop-period-smaller : goal.loop-period-smaller
-loop-period-smaller c =
-    let next = c.in-Some.ensures in
-    let is = some_is _ _ next.2 in
-    let rises = (next.1.one is.1).0 in
-    omega arith
 
 pub loop-period-preserved : goal.loop-period-preserved
 loop-period-preserved c =
