@@ -38,6 +38,7 @@ pub struct Mistake {
     pub place: usize,
 }
 
+#[tactic(auto, using(crate::proofs::Laws::Operands::fits, crate::proofs::Laws::Operands::fails), unfolding(crate::specs::Lines::node_said))]
 fn node_line(line: &[u8], from: usize) -> Result<Command, Mistake>
     ensures { typed_command result ≡ node_said (words_of (drop from line.now)) }
 {
@@ -58,6 +59,7 @@ fn node_line(line: &[u8], from: usize) -> Result<Command, Mistake>
     })
 }
 
+#[tactic(auto, using(crate::proofs::Laws::Operands::fits, crate::proofs::Laws::Operands::fails), unfolding(crate::specs::Lines::flow_said))]
 fn flow_line(line: &[u8], from: usize) -> Result<Command, Mistake>
     ensures { typed_command result ≡ flow_said (words_of (drop from line.now)) }
 {

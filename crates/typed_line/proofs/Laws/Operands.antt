@@ -45,29 +45,13 @@ wrong_at (m ∷ ms) (w ∷ ws) k = go (is_number w m) (wrong_at ms ws (k + 1))
 
 -- What the line says then.
 module _ (limits : List ℕ) (words : List (List ℕ)) where
-  fits : misfit limits words 0 ≡ None → wrong limits words 2 ≡ 0
+  pub fits : misfit limits words 0 ≡ None → wrong limits words 2 ≡ 0
   unfolding place_of
   fits e = wrong_at limits words 0 ∙ rw e
 
-  fails : (index : ℕ) → misfit limits words 0 ≡ Some index → wrong limits words 2 ≡ index + 2
+  pub fails : (index : ℕ) → misfit limits words 0 ≡ Some index → wrong limits words 2 ≡ index + 2
   unfolding place_of
   fails index e = wrong_at limits words 0 ∙ rw e
-
-module _ (words : List (List ℕ)) where
-  pub node_wrong : (index : ℕ) → misfit node_widths words 0 ≡ Some index → Bad 1 (index + 2) ≡ node_said words
-  unfolding node_said
-  node_wrong index e = rw (fails node_widths words index e, ne_eqb (index + 2) 0 (λ q. absurd (omega arith))) refl
-
-  pub node_read : (a b c : ℕ) → misfit node_widths words 0 ≡ None → a ≡ said words 0 → b ≡ said words 1 → c ≡ said words 2 → Node a b c ≡ node_said words
-  node_read a b c e p q r = node_right words a b c (fits node_widths words e) p q r
-
-  pub flow_wrong : (index : ℕ) → misfit flow_widths words 0 ≡ Some index → Bad 2 (index + 2) ≡ flow_said words
-  unfolding flow_said
-  flow_wrong index e = rw (fails flow_widths words index e, ne_eqb (index + 2) 0 (λ q. absurd (omega arith))) refl
-
-  pub flow_read : (a b c d : ℕ) → misfit flow_widths words 0 ≡ None → a ≡ said words 0 → b ≡ said words 1 → c ≡ said words 2 → d ≡ said words 3
-      → Flow a b c d ≡ flow_said words
-  flow_read a b c d e p q r t = flow_right words a b c d (fits flow_widths words e) p q r t
 
 -- A command that is read is one that the line says.
 pub typed_mapped : (r : Result Command Mistake) (q : Result (Option Command) Mistake) → MatchResult r (λ x. IsOkAnd q (λ y. y ≡ Some x)) (λ e. q ≡ Err e)
