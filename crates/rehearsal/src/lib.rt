@@ -1,12 +1,14 @@
 // What a planner types, taken up byte by byte: each line that ends is carried out on the site and the counters as the one before it left them.
 #![tactic(auto)]
 
-ghost use Rattle.std.specs.Prelude.{ℕ, ◌+◌, ◌≡◌, List, [], ◌∷◌, ◌++◌, leb, length};
+ghost use Rattle.std.specs.Prelude.{ℕ, ◌+◌, ◌≡◌, List, leb, length};
+ghost use Rattle.text.specs.Page.{held};
 ghost use Rattle.line_answers.specs.Steps.{answered_to, CarriedAs};
 ghost use Rattle.rehearsal.specs.Desk.{asked_in, HoldsLine, AllTaken};
 
-use line_answers::{Answered, answer_line};
+use line_answers::answer_line;
 use site::Site;
+use text::Page;
 
 // The site as it is now, and how many bytes are kept of the line that has not ended: one more than its space has where it is too long.
 #[derive(Clone, Copy)]
@@ -15,54 +17,33 @@ pub struct Rehearsal {
     pub kept: usize,
 }
 
-// The same after some bytes, with how many of them were taken up and how many bytes their answers have.
+// How a rehearsal stands after some bytes, how many of them were taken up, and how many bytes their answers have.
 #[derive(Clone, Copy)]
 pub struct TakenUp {
-    pub site: Site,
-    pub kept: usize,
+    pub after: Rehearsal,
     pub taken: usize,
     pub filled: usize,
 }
 
-// Puts a byte of the line behind those that are there; answers how many there are then.
-fn keep(space: &mut [u8], kept: usize, byte: u8) -> usize
-    ensures { (line : List ℕ) → HoldsLine space.old kept line → HoldsLine space.new result (line ++ (byte ∷ [])) }
+// Carries out the line that the page holds. One that is too long is malformed.
+fn answer_held(line: &Page<'_>, site: Site, counters: &mut [u32], answers: &mut Page<'_>) -> Site
+    ensures same_space { answers.new.space.ghost_name ≡ answers.old.space.ghost_name }
+    ensures carried { (typed : List ℕ) → HoldsLine line.now.space.now line.now.taken typed
+        → CarriedAs (answered_to (asked_in (length line.now.space.now) typed) (record { site = site; counters = counters.old }))
+        (record { site = result; counters = counters.new }) (held answers.old) (held answers.new) }
 {
-    if kept < space.len() {
-        space[kept] = byte;
-        return kept + 1;
+    if line.space.len() < line.taken {
+        answers.put(b"error\n");
+        return site;
     }
-    space.len() + 1
-}
-
-// Carries out the line that the space holds. One that is too long is malformed.
-fn answer_held(
-    space: &[u8],
-    kept: usize,
-    site: Site,
-    counters: &mut [u32],
-    out: &mut [u8],
-    at: usize,
-) -> Answered
-    ensures { (line : List ℕ) → HoldsLine space.now kept line
-        → CarriedAs (answered_to (asked_in (length space.now) line) (record { site = site; counters = counters.old }))
-        (record { site = result.site; counters = counters.new }) (at, out.old) (result.filled, out.new) }
-{
-    if space.len() < kept {
-        let filled = slices::put(out, at, b"error\n");
-        return Answered { site, filled };
-    }
-    answer_line(&space[0..kept], site, counters, out, at)
+    answer_line(&line.space[..line.taken], site, counters, answers)
 }
 
 // Whether an answer of 8,192 bytes has room behind those that are filled: no answer is longer, by the law `answers_short`.
 fn roomy(filled: usize, size: usize) -> bool
     ensures { result ≡ leb (filled + 8192) size }
 {
-    if size < 8192 {
-        return false;
-    }
-    filled <= size - 8192
+    8192 <= size && filled <= size - 8192
 }
 
 // Takes up what was typed, as long as the answers have room. Each line that ends is carried out, and its answer stands behind those before it.
@@ -74,31 +55,31 @@ pub fn take_up(
     out: &mut [u8],
 ) -> TakenUp
     ensures { AllTaken bytes.now space.old out.old (record { site = before.site; counters = counters.old })
-        before.kept result.taken (record { site = result.site; counters = counters.new }) space.new result.kept (result.filled, out.new) }
+        before.kept result.taken (record { site = result.after.site; counters = counters.new }) space.new result.after.kept (result.filled, out.new) }
 {
     let mut site = before.site;
-    let mut kept = before.kept;
-    let mut filled = 0;
-    let mut i = 0;
-    while i < bytes.len() {
-        if !roomy(filled, out.len()) {
+    let mut line = Page::behind(space, before.kept);
+    let mut answers = Page::over(out);
+    let mut taken = bytes.len();
+    for (i, byte) in bytes.iter().enumerate() {
+        if !roomy(answers.taken, answers.space.len()) {
+            taken = i;
             break;
         }
-        let byte = bytes[i];
-        if byte == b'\n' {
-            let next = answer_held(space, kept, site, counters, out, filled);
-            site = next.site;
-            filled = next.filled;
-            kept = 0;
+        if *byte == b'\n' {
+            site = answer_held(&line, site, counters, &mut answers);
+            line.taken = 0;
         } else {
-            kept = keep(space, kept, byte);
+            line.put(&[*byte]);
         }
-        i += 1;
     }
-    TakenUp {
+    let after = Rehearsal {
         site,
-        kept,
-        taken: i,
-        filled,
+        kept: line.taken,
+    };
+    TakenUp {
+        after,
+        taken,
+        filled: answers.taken,
     }
 }

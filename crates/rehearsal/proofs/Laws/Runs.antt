@@ -5,8 +5,8 @@ use mathlib.Core.Bool.{Bool, true, false, cond}
 use mathlib.Core.Logic.{inl, inr}
 use mathlib.Core.List.{List, [], ◌∷◌, ◌++◌, append_assoc, append-nil}
 use lib.Dec.{eqb, leb}
-use lib.ListN.{length, take, drop, length-append, length-drop}
-use lib.Seq.{take_at, take_all, take-add, length-take-le}
+use lib.ListN.{length, take, drop, length-append, length-drop, take-append-drop}
+use lib.Seq.{take_at, take_all}
 use borrow.Author.Tests.{le-leb}
 use native.Mathlib.Omega.{arith}
 use Rattle.lists.proofs.Laws.Search.{lt_or_le}
@@ -161,32 +161,43 @@ pub goes_none : (σ : State) (space : List ℕ) (kept : ℕ) → GoesOn [] σ sp
 unfolding fed
 goes_none σ space kept d h = h
 
--- The slice of some bytes from `from` on.
-part_long : (bytes : List ℕ) (from : ℕ) → from ≤ length bytes → length (take (length bytes - from) (drop from bytes)) ≡ length bytes - from
-part_long bytes from l = length-take-le (length bytes - from) (drop from bytes) (omega (arith, length-drop from bytes))
-
--- Of the slice from `from` on at least one byte is taken up, and none beyond its end ..
-pub part_taken : (σ : State) (space : List ℕ) (kept : ℕ) (σ' : State) (space' : List ℕ) (kept' : ℕ) (bytes out : List ℕ) (from taken : ℕ) (t : ℕ × List ℕ)
-    → from < length bytes → 8192 ≤ length out
-    → AllTaken (take (length bytes - from) (drop from bytes)) space out σ kept taken σ' space' kept' t → (1 ≤ taken) × (from + taken ≤ length bytes)
-part_taken σ space kept σ' space' kept' bytes out from taken t l room w =
-    let long = part_long bytes from (omega arith) in
-    (taken_one _ space out σ kept taken σ' space' kept' t w room (omega (arith, long)), omega (arith, long, w.0))
-
 module _ (σ₀ : State) (space₀ : List ℕ) (kept₀ : ℕ) (σ : State) (space : List ℕ) (kept : ℕ) (σ' : State) (space' : List ℕ) (kept' : ℕ) where
   pub goes_then : (former later : List ℕ) → GoesOn former σ₀ space₀ kept₀ σ space kept → length space ≡ length space₀
       → GoesOn later σ space kept σ' space' kept' → GoesOn (former ++ later) σ₀ space₀ kept₀ σ' space' kept'
   goes_then former later g long w d h =
       rw (← fed_append (length space₀) d former later) (rw long at (w (fed (length space₀) d former) (g d h)))
 
-  -- .. and the rehearsal stands where the bytes up to there take it.
-  pub goes_part : (bytes out : List ℕ) (from taken : ℕ) (t : ℕ × List ℕ) → from ≤ length bytes → GoesOn (take from bytes) σ₀ space₀ kept₀ σ space kept
-      → length space ≡ length space₀ → AllTaken (take (length bytes - from) (drop from bytes)) space out σ kept taken σ' space' kept' t
-      → GoesOn (take (from + taken) bytes) σ₀ space₀ kept₀ σ' space' kept'
-  goes_part bytes out from taken t l g long w =
-      let part : take (length bytes - from) (drop from bytes) ≡ drop from bytes = take_all (length bytes - from) (drop from bytes) (omega (arith, length-drop from bytes)) in
-      rw (take-add from taken bytes)
-      (goes_then (take from bytes) (take taken (drop from bytes)) g long (rw part at (taken_on _ space out σ kept taken σ' space' kept' t w)))
+-- What is left of some bytes behind the first of them.
+pub left : (taken : ℕ) (bytes : List ℕ) → take (length bytes - taken) (drop taken bytes) ≡ drop taken bytes
+left taken bytes = take_all (length bytes - taken) (drop taken bytes) (omega (arith, length-drop taken bytes))
+
+-- Some first bytes were typed and the rest is left: the rehearsal stands where the first ones take it.
+pub record Typed (bytes rest : List ℕ) (σ₀ : State) (space₀ : List ℕ) (kept₀ : ℕ) (σ : State) (space : List ℕ) (kept : ℕ) : Type 0 where
+  pub typed : List ℕ
+  pub is : bytes ≡ typed ++ rest
+  pub goes : GoesOn typed σ₀ space₀ kept₀ σ space kept
+
+module _ (bytes : List ℕ) (σ₀ : State) (space₀ : List ℕ) (kept₀ : ℕ) where
+  pub typed_none : Typed bytes bytes σ₀ space₀ kept₀ σ₀ space₀ kept₀
+  typed_none = record { typed = []; is = refl; goes = goes_none _ _ _ }
+
+  module _ (rest : List ℕ) (σ : State) (space : List ℕ) (kept : ℕ) (w : Typed bytes rest σ₀ space₀ kept₀ σ space kept) where
+    pub typed_more : (out : List ℕ) (taken : ℕ) (σ' : State) (space' : List ℕ) (kept' : ℕ) (t : ℕ × List ℕ) → length space ≡ length space₀
+        → AllTaken rest space out σ kept taken σ' space' kept' t → Typed bytes (take (length rest - taken) (drop taken rest)) σ₀ space₀ kept₀ σ' space' kept'
+    typed_more out taken σ' space' kept' t long a = record {
+      typed = w.typed ++ take taken rest;
+      is = rw (left taken rest, append_assoc, take-append-drop taken rest) w.is;
+      goes = goes_then σ₀ space₀ kept₀ σ space kept σ' space' kept' w.typed (take taken rest) w.goes long (taken_on rest space out σ kept taken σ' space' kept' t a);
+    }
+
+    -- Each time at least one byte is typed, so that there are fewer left.
+    pub typed_fewer : (out : List ℕ) (taken : ℕ) (σ' : State) (space' : List ℕ) (kept' : ℕ) (t : ℕ × List ℕ) → 1 ≤ length rest → 8192 ≤ length out
+        → AllTaken rest space out σ kept taken σ' space' kept' t → length (take (length rest - taken) (drop taken rest)) < length rest
+    typed_fewer out taken σ' space' kept' t some room a =
+        rw left (omega (arith, length-drop taken rest, taken_one rest space out σ kept taken σ' space' kept' t a room some))
+
+    pub typed_all : rest ≡ [] → GoesOn bytes σ₀ space₀ kept₀ σ space kept
+    typed_all e = rw (w.is, e, append-nil) w.goes
 
 -- A start, then what is typed, and last a newline: the state that is left is one that typed bytes lead to from the start on.
 pub rehearsed : (s : Site) (counters counters' : List ℕ) (a : Ruling) (σ : State) (space space' : List ℕ) (kept : ℕ) (σ' : State) (space'' : List ℕ) (kept' : ℕ)

@@ -1,18 +1,19 @@
 -- The line that a space holds, and the bytes that are taken up one by one.
-use Prim.Native.Nat.{ℕ, zero, suc, ◌+◌, ◌-◌, ◌≤◌, ◌<◌}
+use Prim.Native.Nat.{ℕ, suc, ◌+◌, ◌≤◌, ◌<◌}
 use mathlib.Core.Path.{◌≡◌, refl, sym, ◌∙◌, ap}
-use mathlib.Core.Bool.{Bool, true, false, cond, not}
+use mathlib.Core.Bool.{true, false}
 use mathlib.Core.Logic.{inl, inr}
 use mathlib.Core.List.{List, [], ◌∷◌, ◌++◌}
-use lib.Dec.{eqb, leb}
+use lib.Dec.{leb}
 use lib.ListN.{length, set, take, drop, get_or, length-append, length-set, drop_of_length-le}
-use lib.Seq.{take-suc-set, take_all, drop-cons, length-take-le}
-use borrow.Author.Tests.{le-leb, lt-leb, eq-eqb, ne_eqb, leb-true}
-use native.Mathlib.Nat.{sub-zero}
+use lib.Seq.{sets, take-suc-set, drop-cons, length-take-le}
+use borrow.Author.Tests.{le-leb, lt-leb, ne_eqb}
 use native.Mathlib.Omega.{arith}
 use Rattle.lists.proofs.Laws.Search.{lt_or_le}
+use Rattle.slices.specs.Put.{put}
+use Rattle.slices.proofs.Laws.Put.{put_sets, put_room, put_full, put_long}
 use Rattle.text.specs.Put.{puts}
-use Rattle.text.proofs.Laws.Put.{puts_then}
+use Rattle.text.proofs.Laws.Put.{puts_then, puts_long}
 use Rattle.call_text.specs.Lines.{alone, asked_of}
 use Rattle.guarantee.specs.Runs.{State}
 use Rattle.line_answers.specs.Steps.{malformed_text, carried_out, answered_to, CarriedAs}
@@ -41,6 +42,19 @@ module _ (space : List ℕ) (kept byte : ℕ) (line : List ℕ) (h : HoldsLine s
         | inr m ↦ rw (h.whole m) (omega (arith, length-take-le kept space m))
       ]
 
+  pub holds_put : (kept' : ℕ) (space' : List ℕ) → (kept', space') ≡ put (kept, space) (byte ∷ []) → HoldsLine space' kept' (line ++ (byte ∷ []))
+  holds_put kept' space' e = elim (lt_or_le kept (length space)) [
+    | inl l ↦
+        let now : space' ≡ sets space kept (byte ∷ []) = put_sets kept kept' space (byte ∷ []) space' (omega arith) e in
+        let count : kept' ≡ kept + 1 = ap (λ (s : ℕ × List ℕ). s.0) (e ∙ put_room kept space (byte ∷ []) (omega arith)) in
+        rw (count, now) (holds_more l)
+    | inr m ↦
+        let all : ◌≡◌ {A = ℕ × List ℕ} (kept', space') (length space + 1, space) = e ∙ put_full kept space (byte ∷ []) (omega arith) in
+        let now : space' ≡ space = ap (λ (s : ℕ × List ℕ). s.1) all in
+        let count : kept' ≡ length space + 1 = ap (λ (s : ℕ × List ℕ). s.0) all in
+        rw (count, now) (holds_no_more m)
+  ]
+
 pub holds_nothing : (space : List ℕ) → HoldsLine space 0 []
 holds_nothing space = record { whole = λ m. refl; longer = λ m. absurd (omega arith) }
 
@@ -51,53 +65,45 @@ module _ (space : List ℕ) (kept : ℕ) (σ σ' : State) (s t : ℕ × List ℕ
   unfolding asked_in alone answered_to carried_out
   held_long l e q line h = rw (lt-leb _ _ (h.longer l)) (e, q)
 
-  pub held_whole : kept ≤ length space → CarriedAs (answered_to (asked_of (take (kept - 0) space)) σ) σ' s t
+  pub held_whole : kept ≤ length space → CarriedAs (answered_to (asked_of (take kept space)) σ) σ' s t
       → (line : List ℕ) → HoldsLine space kept line → CarriedAs (answered_to (asked_in (length space) line) σ) σ' s t
   unfolding asked_in
   held_whole l g line h =
       let short : length line ≤ length space = rw (h.whole l, length-take-le kept space l) l in
-      rw (le-leb _ _ short, h.whole l) (rw (sub-zero kept) at g)
-
--- Room for the longest answer.
-pub room_none : (filled size : ℕ) → size < 8192 → false ≡ leb (filled + 8192) size
-room_none filled size l = sym (lt-leb (filled + 8192) size (omega arith))
-
-pub room_some : (filled size : ℕ) → 8192 ≤ size → leb filled (size - 8192) ≡ leb (filled + 8192) size
-room_some filled size l = elim (lt_or_le (size - 8192) filled) [
-  | inl m ↦ lt-leb filled (size - 8192) m ∙ sym (lt-leb (filled + 8192) size (omega arith))
-  | inr m ↦ le-leb filled (size - 8192) m ∙ sym (le-leb (filled + 8192) size (omega arith))
-]
+      rw (le-leb _ _ short, h.whole l) g
 
 -- Bytes taken up one by one: what stands after the first i of them goes on to what all of them come to.
 pub record TakingUp (bytes space₀ out₀ : List ℕ) (σ₀ : State) (kept₀ i : ℕ) (σ : State) (space : List ℕ) (kept : ℕ) (t : ℕ × List ℕ) : Type 0 where
   pub within : i ≤ length bytes
   pub space_long : length space ≡ length space₀
-  pub out_long : length t.1 ≡ length out₀
   pub goes : (d : Desk) → Stands (0, out₀) d σ₀ space₀ kept₀ (0, out₀)
       → (e : Desk) × Stands (0, out₀) e σ space kept t × (taken_up (length space₀) (0, out₀) e (drop i bytes) ≡ taken_up (length space₀) (0, out₀) d bytes)
 
 module _ (bytes space₀ out₀ : List ℕ) (σ₀ : State) (kept₀ : ℕ) where
   pub taking_none : TakingUp bytes space₀ out₀ σ₀ kept₀ 0 σ₀ space₀ kept₀ (0, out₀)
-  taking_none = record { within = omega arith; space_long = refl; out_long = refl; goes = λ d h. (d, h, refl) }
+  taking_none = record { within = omega arith; space_long = refl; goes = λ d h. (d, h, refl) }
 
   module _ (i : ℕ) (σ : State) (space : List ℕ) (kept filled : ℕ) (out : List ℕ) (w : TakingUp bytes space₀ out₀ σ₀ kept₀ i σ space kept (filled, out)) where
+    -- The answers change no length.
+    out_long : (e : Desk) → Stands (0, out₀) e σ space kept (filled, out) → length out ≡ length out₀
+    out_long e h = ap (λ (s : ℕ × List ℕ). length s.1) h.handed ∙ puts_long (0, out₀) e.text
+
     -- One byte with room for an answer.
     next_byte : (e : Desk) → Stands (0, out₀) e σ space kept (filled, out) → i < length bytes → leb (filled + 8192) (length out) ≡ true
         → taken_up (length space₀) (0, out₀) (fed_byte (length space₀) e (get_or bytes i 0)) (drop (i + 1) bytes) ≡ taken_up (length space₀) (0, out₀) e (drop i bytes)
     unfolding taken_up
     next_byte e h l room =
         let more : i + 1 ≡ suc i = omega arith in
-        let test : leb ((puts (0, out₀) e.text).0 + 8192) (length out₀) ≡ true = rw (← h.handed, ← w.out_long) room in
+        let test : leb ((puts (0, out₀) e.text).0 + 8192) (length out₀) ≡ true = rw (← h.handed, ← out_long e h) room in
         rw (more, drop-cons bytes i 0 l, test)
 
     pub taking_line : i < length bytes → leb (filled + 8192) (length out) ≡ true → get_or bytes i 0 ≡ 10
         → (σ' : State) (t : ℕ × List ℕ) → ((line : List ℕ) → HoldsLine space kept line → CarriedAs (answered_to (asked_in (length space) line) σ) σ' (filled, out) t)
-        → length t.1 ≡ length out → TakingUp bytes space₀ out₀ σ₀ kept₀ (i + 1) σ' space 0 t
+        → TakingUp bytes space₀ out₀ σ₀ kept₀ (i + 1) σ' space 0 t
     unfolding fed_byte
-    taking_line l room newline σ' t g long = record {
+    taking_line l room newline σ' t g = record {
       within = omega arith;
       space_long = w.space_long;
-      out_long = long ∙ w.out_long;
       goes = λ d h. go (w.goes d h);
     }
       where
@@ -111,18 +117,17 @@ module _ (bytes space₀ out₀ : List ℕ) (σ₀ : State) (kept₀ : ℕ) wher
         go (e, h, q) = (fed_byte (length space₀) e (get_or bytes i 0), answered e h, next_byte e h l room ∙ q)
 
     pub taking_byte : i < length bytes → leb (filled + 8192) (length out) ≡ true → (get_or bytes i 0 ≡ 10 → ⊥)
-        → (space' : List ℕ) (kept' : ℕ) → ((line : List ℕ) → HoldsLine space kept line → HoldsLine space' kept' (line ++ (get_or bytes i 0 ∷ [])))
-        → length space' ≡ length space → TakingUp bytes space₀ out₀ σ₀ kept₀ (i + 1) σ space' kept' (filled, out)
-    unfolding fed_byte
-    taking_byte l room other space' kept' g long = record {
+        → (space' : List ℕ) (kept' : ℕ) → (kept', space') ≡ puts (kept, space) ((get_or bytes i 0 ∷ []) ∷ [])
+        → TakingUp bytes space₀ out₀ σ₀ kept₀ (i + 1) σ space' kept' (filled, out)
+    unfolding fed_byte puts
+    taking_byte l room other space' kept' g = record {
       within = omega arith;
-      space_long = long ∙ w.space_long;
-      out_long = w.out_long;
+      space_long = ap (λ (s : ℕ × List ℕ). length s.1) g ∙ put_long (kept, space) (get_or bytes i 0 ∷ []) ∙ w.space_long;
       goes = λ d h. go (w.goes d h);
     }
       where
         typed : (e : Desk) → Stands (0, out₀) e σ space kept (filled, out) → Stands (0, out₀) (fed_byte (length space₀) e (get_or bytes i 0)) σ space' kept' (filled, out)
-        typed e h = rw (ne_eqb _ _ other) (record { at = record { state = h.at.state; held = g e.line h.at.held }; handed = h.handed })
+        typed e h = rw (ne_eqb _ _ other) (record { at = record { state = h.at.state; held = holds_put space kept (get_or bytes i 0) e.line h.at.held kept' space' g }; handed = h.handed })
 
         go : {all : Desk × List ℕ} → (e : Desk) × Stands (0, out₀) e σ space kept (filled, out) × (taken_up (length space₀) (0, out₀) e (drop i bytes) ≡ all)
             → (e : Desk) × Stands (0, out₀) e σ space' kept' (filled, out) × (taken_up (length space₀) (0, out₀) e (drop (i + 1) bytes) ≡ all)
@@ -143,9 +148,21 @@ module _ (bytes space₀ out₀ : List ℕ) (σ₀ : State) (kept₀ : ℕ) wher
       where
         stays : (e : Desk) → Stands (0, out₀) e σ space kept (filled, out) → taken_up (length space₀) (0, out₀) e (drop i bytes) ≡ (e, drop i bytes)
         stays e h =
-            let test : leb ((puts (0, out₀) e.text).0 + 8192) (length out₀) ≡ false = rw (← h.handed, ← w.out_long) full in
+            let test : leb ((puts (0, out₀) e.text).0 + 8192) (length out₀) ≡ false = rw (← h.handed, ← out_long e h) full in
             rw (drop-cons bytes i 0 l, test)
 
         go : {all : Desk × List ℕ} → (e : Desk) × Stands (0, out₀) e σ space kept (filled, out) × (taken_up (length space₀) (0, out₀) e (drop i bytes) ≡ all)
             → Stands (0, out₀) all.0 σ space kept (filled, out) × (drop i bytes ≡ all.1)
         go (e, h, q) = rw (← q, stays e h) (h, refl)
+
+-- The same of the memory that was lent, over which the pages lie.
+module _ (bytes space₀ out₀ : List ℕ) (σ₀ : State) (kept₀ i : ℕ) (σ : State) (space : List ℕ) (kept filled : ℕ) (out : List ℕ)
+    (w : AllTaken bytes space₀ out₀ σ₀ kept₀ i σ space kept (filled, out))
+  where
+    pub taken_of_lent : (space₁ out₁ space' out' : List ℕ) (kept₁ j filled₁ : ℕ) → ◌≡◌ {A = ℕ × List ℕ} (kept₀, space₀) (kept₁, space₁) → ◌≡◌ {A = ℕ × List ℕ} (filled₁, out₀) (0, out₁)
+        → space ≡ space' → out ≡ out' → j ≡ i → AllTaken bytes space₁ out₁ σ₀ kept₁ j σ space' kept (filled, out')
+    taken_of_lent space₁ out₁ space' out' kept₁ j filled₁ p q e f k =
+        let p₀ : kept₁ ≡ kept₀ = ap (λ (s : ℕ × List ℕ). s.0) (sym p) in
+        let p₁ : space₁ ≡ space₀ = ap (λ (s : ℕ × List ℕ). s.1) (sym p) in
+        let q₁ : out₁ ≡ out₀ = ap (λ (s : ℕ × List ℕ). s.1) (sym q) in
+        rw (p₀, p₁, q₁, ← e, ← f, k) w

@@ -1,32 +1,41 @@
 use borrow.Author.Rules.{rules}
-use borrow.Author.Tests.{not-true, not-false}
-use mathlib.Core.Path.{refl, sym, ◌∙◌}
-use Rattle.rehearsal.proofs.Laws.Typing.{taking_none, taking_line, taking_byte, taken_all, taken_full}
-use Rattle.std.proofs.lemmas.Bool.{not_from_true, not_from_false}
+use Prim.Native.Nat.{◌+◌}
+use mathlib.Core.Path.{◌≡◌}
+use mathlib.Core.Bool.{true, false}
+use lib.Dec.{leb}
+use lib.ListN.{length}
+use native.Mathlib.Omega.{arith}
+use Rattle.rehearsal.proofs.Laws.Typing.{taking_line, taking_byte, taken_all, taken_full, taken_of_lent}
 use Rattle.rehearsal.proofs.take_up.Goals as goal
-use Rattle.rehearsal.proofs.take_up.Goals.{else-byte-eq10, then-byte-eq10}
-
-pub loop-i-init : goal.loop-i-init
-loop-i-init c = (taking_none _ _ _ _ _, refl)
+use Rattle.rehearsal.proofs.take_up.Goals.{else-byte-eq10, then-byte-eq10, else-loop-i-test, then-loop-i-test+then-not-roomy}
 
 pub loop-i-preserved : goal.loop-i-preserved
 loop-i-preserved c =
+    let room : leb (c.loop-i.answers.taken + 8192) (length c.loop-i.answers.space.now) ≡ true = search rules in
     elim c.if-byte-eq10.branch [
-      | then-byte-eq10 w ↦ rw (w.space-is, w.counters-is, w.out-is, w.site-is, w.kept-is, w.filled-is) (
-        taking_line _ _ _ _ _ _ _ _ _ _ _ c.loop-i.invariant.0 c.loop-i-test.true (sym c.roomy.ensures ∙ not-false _ (not_from_true _ c.if-not-roomy.false))
-            w.if-byte-eq10.true _ _ w.answer_held-next.ensures (search rules),
-        search rules,
-      )
-      | else-byte-eq10 w ↦ rw (w.space-is, w.counters-is, w.out-is, w.site-is, w.kept-is, w.filled-is) (
-        taking_byte _ _ _ _ _ _ _ _ _ _ _ c.loop-i.invariant.0 c.loop-i-test.true (sym c.roomy.ensures ∙ not-false _ (not_from_true _ c.if-not-roomy.false))
-            w.if-byte-eq10.false _ _ w.keep-kept.ensures (search rules),
-        search rules,
-      )
+      | then-byte-eq10 w ↦ rw (w.line-is, w.counters-is, w.answers-is, w.site-is) (record {
+        going = taking_line _ _ _ _ _ _ _ _ _ _ _ c.loop-i.invariant.going c.loop-i-test.true room w.if-byte-eq10.true _ _ w.answer_held-site.ensures.carried;
+        line_same = search rules;
+        answers_same = search rules;
+        counters_long = search rules;
+        all = search rules;
+      })
+      | else-byte-eq10 w ↦ rw (w.line-is, w.counters-is, w.answers-is, w.site-is) (record {
+        going = taking_byte _ _ _ _ _ _ _ _ _ _ _ c.loop-i.invariant.going c.loop-i-test.true room w.if-byte-eq10.false _ _ w.put.ensures.1;
+        line_same = search rules;
+        answers_same = search rules;
+        counters_long = search rules;
+        all = search rules;
+      })
     ]
 
-pub returns-after-loop-i : goal.returns-after-loop-i
-returns-after-loop-i c = taken_all _ _ _ _ _ _ _ _ _ _ _ c.loop-i.invariant.0 c.loop-i-test.false
-
-pub returns-then-not-roomy : goal.returns-then-not-roomy
-returns-then-not-roomy c =
-    taken_full _ _ _ _ _ _ _ _ _ _ _ c.loop-i.invariant.0 c.loop-i-test.true (sym c.roomy.ensures ∙ not-true _ (not_from_false _ c.if-not-roomy.true))
+pub returns : goal.returns
+returns c =
+    elim c.loop-i-test.branch [
+      | else-loop-i-test w ↦ taken_of_lent _ _ _ _ _ _ _ _ _ _ _ (taken_all _ _ _ _ _ _ _ _ _ _ _ c.loop-i.invariant.going w.loop-i-test.false)
+          _ _ _ _ _ _ _ c.behind-line.ensures.begun c.over-answers.ensures.empty (search rules) (search rules) (omega arith)
+      | then-loop-i-test+then-not-roomy w ↦
+          let full : leb (c.loop-i.answers.taken + 8192) (length c.loop-i.answers.space.now) ≡ false = search rules in
+          taken_of_lent _ _ _ _ _ _ _ _ _ _ _ (taken_full _ _ _ _ _ _ _ _ _ _ _ c.loop-i.invariant.going w.loop-i-test.true full)
+          _ _ _ _ _ _ _ c.behind-line.ensures.begun c.over-answers.ensures.empty (search rules) (search rules) w.taken-is
+    ]
