@@ -3,22 +3,22 @@
 -- lists are made of are the very steps of a run. `a` holds what is handed in, in the order of the parameters, and `x` what is lent as the call leaves it. A
 -- contract that says less gives its law no more. The laws of the library's exported functions stand in `slotplan_lib`.
 use mathlib.Core.Path.{◌≡◌, refl}
-use Rattle.rulings.specs.Outcome.{ruling, settled}
+use Rattle.rulings.specs.Outcome.{outcome}
+use Rattle.std.specs.Result.{MatchResult}
 use Rattle.judgement.specs.Judge.{with_site, judge_of}
 use Rattle.plan_reader.specs.Read.{read_of}
-use Rattle.slices.specs.Written.{writing, written}
+use Rattle.slices.specs.Written.{written}
 use Rattle.site_check.specs.Check.{passes_of, written_if}
 use Rattle.plan_writer.specs.Write.{plan_bytes}
 use Rattle.schedule_check.specs.Schedules.{of_lists}
 use Rattle.schedule_check.specs.Check.{schedule_passes}
 use Rattle.schedule_reader.specs.Read.{with_links, schedule_read}
 use Rattle.schedule_writer.specs.Write.{schedule_of, schedule_bytes, schedule_written}
-use Rattle.sender.specs.Sender.{found, sender_of}
+use Rattle.sender.specs.Sender.{sender_of}
 use Rattle.moves.specs.Hops.{own}
 use Rattle.guarantee.specs.Runs.{slot, admit, release, start, Promise}
-use Rattle.pinwheel.specs.Answers.{outcome}
-use Rattle.text.specs.Put.{puts}
-use Rattle.line_words.specs.Words.{word_start, word_end, operand_at}
+use Rattle.text.specs.Page.{held, Adds}
+use Rattle.line_words.specs.Words.{FoundWord, operand_at}
 use Rattle.line_words.proofs.next_word.Reads as next-words
 use Rattle.line_words.proofs.next_operand.Reads as operands
 use Rattle.site_report.specs.Report.{report_of, site_lines}
@@ -27,7 +27,7 @@ use Rattle.plan_listing.proofs.put_plan.Reads as typed-sites
 use Rattle.line_answers.proofs.put_answer.Reads as questions
 use Rattle.schedule_report.specs.Report.{schedule_report_of}
 use Rattle.plan_listing.specs.Listing.{listing_of, site_typed}
-use Rattle.typed_plan.specs.Assemble.{assembled_of}
+use Rattle.typed_plan.specs.Assemble.{assembled, assembled_of}
 use Rattle.call_text.specs.Lines.{asked_of}
 use Rattle.line_answers.specs.Steps.{call_of, question_text, answered_to, CarriedAs}
 use Rattle.rehearsal.specs.Desk.{AllTaken}
@@ -43,8 +43,9 @@ use Rattle.pinwheel.proofs.assign.Reads as slot-rules
 use Rattle.bounds.proofs.delay_bound.Reads as delays
 use Rattle.judgement.proofs.judge.Reads as judgements
 use Rattle.site_check.proofs.passes.Reads as checks
-use Rattle.schedule_check.proofs.passes.Reads as schedule-checks
+use Rattle.schedule_check.proofs.Schedule.passes.Reads as schedule-checks
 use Rattle.plan_reader.proofs.read_with.Reads as readings
+use Rattle.plan_reader.proofs.read_site.Reads as sites
 use Rattle.plan_reader.proofs.read_plan.Reads as plans
 use Rattle.plan_writer.proofs.write_plan.Reads as written-plans
 use Rattle.schedule_reader.proofs.read_schedule.Reads as read-schedules
@@ -64,81 +65,84 @@ pub slot_ruling_lem : (κs : _) (a : _) (r : _) (x : _) → slot-rules.Post κs 
     → (outcome r, x.1.0.now, x.1.1.0.now) ≡ assigned 2 a.0.now a.1.0.now a.1.1.0.now
 slot_ruling_lem κs a r x p = p
 
-pub judging : (κs : _) (a : _) (r : _) (x : _) → judgements.Post κs a r x → (ruling r.verdict, r.site) ≡ with_site (judge_of a.0)
+pub judging : (κs : _) (a : _) (r : _) (x : _) → judgements.Post κs a r x → (outcome r.verdict, r.site) ≡ with_site (judge_of a.0)
 judging κs a r x p = p
 
-pub site_passing : (κs : _) (a : _) (r : _) (x : _) → checks.Post κs a r x → r ≡ passes_of a.0
+pub site_passing : (κs : _) (a : _) (r : _) (x : _) → checks.Post κs a r x → r ≡ passes_of a.0.now
 site_passing κs a r x p = p
 
-pub schedule_passing : (κs : _) (a : _) (r : _) (x : _) → schedule-checks.Post κs a r x → r ≡ schedule_passes a.0
+pub schedule_passing : (κs : _) (a : _) (r : _) (x : _) → schedule-checks.Post κs a r x → r ≡ schedule_passes a.0.now
 schedule_passing κs a r x p = p
 
-pub delay_told : (κs : _) (a : _) (r : _) (x : _) → delays.Post κs a r x → r ≡ delay_bound a.0 a.1.0
+pub delay_told : (κs : _) (a : _) (r : _) (x : _) → delays.Post κs a r x → r ≡ delay_bound a.0.now a.1.0
 delay_told κs a r x p = p
 
-pub plan_reading : (κs : _) (a : _) (r : _) (x : _) → plans.Post κs a r x → (ruling r.verdict, r.site) ≡ with_site (read_of a.0.now)
+pub plan_reading : (κs : _) (a : _) (r : _) (x : _) → plans.Post κs a r x → (outcome r.verdict, r.site) ≡ with_site (read_of a.0.now)
 plan_reading κs a r x p = p
 
+pub site_reading : (κs : _) (a : _) (r : _) (x : _) → sites.Post κs a r x → outcome r ≡ read_of a.0.now
+site_reading κs a r x p = p
+
 pub loads_reading : (κs : _) (a : _) (r : _) (x : _) → readings.Post κs a r x
-    → ((ruling r.verdict, r.site) ≡ with_site (read_of a.0.now)) × (x.1.0.now ≡ settled (ruling r.verdict) (loads_of r.site) a.1.0.now)
-loads_reading κs a r x p = p
+    → (outcome r ≡ read_of a.0.now) × MatchResult r (λ s. x.1.0.now ≡ loads_of s) (λ e. x.1.0.now ≡ a.1.0.now)
+loads_reading κs a r x p = (p.0, p.1)
 
 pub plan_writing : (κs : _) (a : _) (r : _) (x : _) → written-plans.Post κs a r x
-    → (writing r, x.1.0.now) ≡ written_if a.0 (plan_bytes a.0) a.1.0.now
+    → (outcome r, x.1.0.now) ≡ written_if a.0 (plan_bytes a.0) a.1.0.now
 plan_writing κs a r x p = p
 
-pub schedule_reading : (κs : _) (a : _) (r : _) (x : _) → read-schedules.Post κs a r x → (ruling r.verdict, r.schedule) ≡ with_links (schedule_read a.0.now)
+pub schedule_reading : (κs : _) (a : _) (r : _) (x : _) → read-schedules.Post κs a r x → (outcome r.verdict, r.schedule) ≡ with_links (schedule_read a.0.now)
 schedule_reading κs a r x p = p
 
 pub schedule_writing : (κs : _) (a : _) (r : _) (x : _) → site-schedules.Post κs a r x
-    → (writing r, x.1.0.now) ≡ written_if a.0 (schedule_bytes (schedule_of a.0)) a.1.0.now
+    → (outcome r, x.1.0.now) ≡ written_if a.0 (schedule_bytes (schedule_of a.0)) a.1.0.now
 schedule_writing κs a r x p = p
 
-pub value_writing : (κs : _) (a : _) (r : _) (x : _) → value-schedules.Post κs a r x → (writing r, x.1.0.now) ≡ schedule_written a.0 a.1.0.now
+pub value_writing : (κs : _) (a : _) (r : _) (x : _) → value-schedules.Post κs a r x → (outcome r, x.1.0.now) ≡ schedule_written a.0 a.1.0.now
 value_writing κs a r x p = p
 
 pub lists_writing : (κs : _) (a : _) (r : _) (x : _) → listed-schedules.Post κs a r x
-    → (writing r, x.1.1.1.0.now) ≡ schedule_written (of_lists a.0 a.1.0.now a.1.1.0.now) a.1.1.1.0.now
+    → (outcome r, x.1.1.1.0.now) ≡ schedule_written (of_lists a.0 a.1.0.now a.1.1.0.now) a.1.1.1.0.now
 lists_writing κs a r x p = p
 
 pub admitting : (κs : _) (a : _) (r : _) (x : _) → admissions.Post κs a r x
-    → Promise own (admit a.1.1.0) (record { site = a.0; counters = a.1.0.now }) (ruling r.verdict) (record { site = r.site; counters = x.1.0.now })
+    → Promise own (admit a.1.1.0) (record { site = a.0; counters = a.1.0.now }) (outcome r.verdict) (record { site = r.site; counters = x.1.0.now })
 unfolding Promise
 admitting κs a r x p = p
 
 pub releasing : (κs : _) (a : _) (r : _) (x : _) → departures.Post κs a r x
-    → Promise own (release a.1.1.0) (record { site = a.0; counters = a.1.0.now }) (ruling r.verdict) (record { site = r.site; counters = x.1.0.now })
+    → Promise own (release a.1.1.0) (record { site = a.0; counters = a.1.0.now }) (outcome r.verdict) (record { site = r.site; counters = x.1.0.now })
 unfolding Promise
 releasing κs a r x p = p
 
-pub looking_up : (κs : _) (a : _) (r : _) (x : _) → lookups.Post κs a r x → found r ≡ sender_of a.0 a.1.0 a.1.1.0
+pub looking_up : (κs : _) (a : _) (r : _) (x : _) → lookups.Post κs a r x → outcome r ≡ sender_of a.0 a.1.0 a.1.1.0
 looking_up κs a r x p = p
 
 pub starting : (κs : _) (a : _) (r : _) (x : _) → begun.Post κs a r x
-    → Promise own start (record { site = a.0; counters = a.1.0.now }) (ruling r) (record { site = a.0; counters = x.1.0.now })
+    → Promise own start (record { site = a.0; counters = a.1.0.now }) (outcome r) (record { site = a.0; counters = x.1.0.now })
 unfolding Promise
 starting κs a r x p = (p, refl)
 
 pub one_slot : (κs : _) (a : _) (r : _) (x : _) → moved.Post κs a r x
-    → Promise own (slot a.1.1.1.0 a.1.1.0.now) (record { site = a.0; counters = a.1.0.now }) (ruling r) (record { site = a.0; counters = x.1.0.now })
+    → Promise own (slot a.1.1.1.0 a.1.1.0.now) (record { site = a.0; counters = a.1.0.now }) (outcome r) (record { site = a.0; counters = x.1.0.now })
 unfolding Promise
 one_slot κs a r x p = (p, refl)
 
-pub loads_contract : (κs : _) (a : _) (r : _) (x : _) → loads.Post κs a r x → r ≡ loads_of a.0
+pub loads_contract : (κs : _) (a : _) (r : _) (x : _) → loads.Post κs a r x → r ≡ loads_of a.0.now
 loads_contract κs a r x p = p
 
 -- What programs print of plan bytes and of schedule files, and what is typed.
-pub reporting : (κs : _) (a : _) (r : _) (x : _) → reports.Post κs a r x → (writing r, x.1.0.now) ≡ written (report_of a.0.now) a.1.0.now
+pub reporting : (κs : _) (a : _) (r : _) (x : _) → reports.Post κs a r x → (outcome r, x.1.0.now) ≡ written (report_of a.0.now) a.1.0.now
 reporting κs a r x p = p
 
 pub schedule_reporting : (κs : _) (a : _) (r : _) (x : _) → schedule-reports.Post κs a r x
-    → (writing r, x.1.0.now) ≡ written (schedule_report_of a.0.now) a.1.0.now
+    → (outcome r, x.1.0.now) ≡ written (schedule_report_of a.0.now) a.1.0.now
 schedule_reporting κs a r x p = p
 
-pub listing_plans : (κs : _) (a : _) (r : _) (x : _) → listings.Post κs a r x → (writing r, x.1.0.now) ≡ written (listing_of a.0.now) a.1.0.now
+pub listing_plans : (κs : _) (a : _) (r : _) (x : _) → listings.Post κs a r x → (outcome r, x.1.0.now) ≡ written (listing_of a.0.now) a.1.0.now
 listing_plans κs a r x p = p
 
-pub assembling_plans : (κs : _) (a : _) (r : _) (x : _) → assemblies.Post κs a r x → (r, x.1.0.now) ≡ assembled_of a.0.now a.1.0.now
+pub assembling_plans : (κs : _) (a : _) (r : _) (x : _) → assemblies.Post κs a r x → (assembled r, x.1.0.now) ≡ assembled_of a.0.now a.1.0.now
 assembling_plans κs a r x p = p
 
 -- A line of a rehearsal: what it asks for; the call that it makes, which is a step of a run; and all that it comes to.
@@ -146,35 +150,33 @@ pub line_reading : (κs : _) (a : _) (r : _) (x : _) → lines.Post κs a r x �
 line_reading κs a r x p = p
 
 pub call_making : (κs : _) (a : _) (r : _) (x : _) → made.Post κs a r x
-    → Promise own (call_of a.0 a.1.0.now) (record { site = a.1.1.0; counters = a.1.1.1.0.now }) (ruling r.verdict)
+    → Promise own (call_of a.0 a.1.0.now) (record { site = a.1.1.0; counters = a.1.1.1.0.now }) (outcome r.verdict)
     (record { site = r.site; counters = x.1.1.1.0.now })
 call_making κs a r x p = p
 
 pub line_answering : (κs : _) (a : _) (r : _) (x : _) → answers.Post κs a r x
-    → CarriedAs (answered_to (asked_of a.0.now) (record { site = a.1.0; counters = a.1.1.0.now })) (record { site = r.site; counters = x.1.1.0.now })
-    (a.1.1.1.1.0, a.1.1.1.0.now) (r.filled, x.1.1.1.0.now)
-line_answering κs a r x p = p
+    → CarriedAs (answered_to (asked_of a.0.now) (record { site = a.1.0; counters = a.1.1.0.now })) (record { site = r; counters = x.1.1.0.now })
+    (held a.1.1.1.0.now) (held x.1.1.1.0.now)
+line_answering κs a r x p = p.1
 
 -- What is typed, as far as it is taken up: the whole contract.
 pub taking_up : (κs : _) (a : _) (r : _) (x : _) → taken.Post κs a r x
     → AllTaken a.0.now a.1.1.0.now a.1.1.1.1.0.now (record { site = a.1.0.site; counters = a.1.1.1.0.now }) a.1.0.kept r.taken
-    (record { site = r.site; counters = x.1.1.1.0.now }) x.1.1.0.now r.kept (r.filled, x.1.1.1.1.0.now)
+    (record { site = r.after.site; counters = x.1.1.1.0.now }) x.1.1.0.now r.after.kept (r.filled, x.1.1.1.1.0.now)
 taking_up κs a r x p = p
 
 -- What stands in a text: the answer to a question, a site's lines as printed and as typed; where the next word stands, and the operand that it is.
-pub question_answering : (κs : _) (a : _) (r : _) (x : _) → questions.Post κs a r x
-    → (r, x.0.now) ≡ puts (a.1.0, a.0.now) (question_text a.1.1.0 a.1.1.1.0 a.1.1.1.1.0.now)
+pub question_answering : (κs : _) (a : _) (r : _) (x : _) → questions.Post κs a r x → Adds a.0.now x.0.now (question_text a.1.0 a.1.1.0.now a.1.1.1.0.now)
 question_answering κs a r x p = p
 
-pub site_printing : (κs : _) (a : _) (r : _) (x : _) → printed-sites.Post κs a r x → (r, x.0.now) ≡ puts (a.1.0, a.0.now) (site_lines a.1.1.0)
+pub site_printing : (κs : _) (a : _) (r : _) (x : _) → printed-sites.Post κs a r x → Adds a.0.now x.0.now (site_lines a.1.0.now)
 site_printing κs a r x p = p
 
-pub site_typing : (κs : _) (a : _) (r : _) (x : _) → typed-sites.Post κs a r x → (r, x.0.now) ≡ puts (a.1.0, a.0.now) (site_typed a.1.1.0)
+pub site_typing : (κs : _) (a : _) (r : _) (x : _) → typed-sites.Post κs a r x → Adds a.0.now x.0.now (site_typed a.1.0.now)
 site_typing κs a r x p = p
 
-pub word_finding : (κs : _) (a : _) (r : _) (x : _) → next-words.Post κs a r x
-    → (r.start ≡ word_start a.0.now a.1.0) × (r.end ≡ word_end a.0.now a.1.0)
-word_finding κs a r x p = (p.begins, p.ends)
+pub word_finding : (κs : _) (a : _) (r : _) (x : _) → next-words.Post κs a r x → FoundWord a.0.now a.1.0 r
+word_finding κs a r x p = p
 
 pub operand_reading : (κs : _) (a : _) (r : _) (x : _) → operands.Post κs a r x → r ≡ operand_at a.0.now a.1.0 a.1.1.0
-operand_reading κs a r x p = p.3
+operand_reading κs a r x p = p.2
