@@ -3,145 +3,107 @@
 // is the number of links, 1 an offset, 2 a period. A line that begins with `#` is printed as it stands. Any other line is a schedule file in hexadecimal.
 #![tactic(auto)]
 
-use rulings::Verdict;
 use schedule_check::Schedule;
 use schedule_reader::Reading;
-use testlib_text::Change;
+use testlib_text::{Change, Numbers};
+use text::Page;
 
-// The schedule with one entry changed, or as it is where the change is not complete, there is no such entry or the value is too large. The number of links has
-// no index.
+// The schedule with one entry changed, or as it is where there is no such entry or the value is too large. The number of links has no index.
 fn changed(schedule: Schedule, change: Change) -> Schedule {
-    let field = change.field;
-    let index = change.index;
-    let value = change.value;
     let mut next = schedule;
-    if !change.found {
-        return next;
-    }
-    if field == 0 {
-        if value <= 255 {
-            next.links = testlib_text::low8(value);
-        }
-        return next;
-    }
-    if 65535 < value {
-        return next;
-    }
-    let word = testlib_text::low16(value);
-    if index < 63 {
-        match field {
-            1 => next.offsets[index] = word,
-            2 => next.periods[index] = word,
-            _ => {}
-        }
+    let word = testlib_text::low16(change.value);
+    let fits = change.value <= 65535 && change.index < 63;
+    match change.field {
+        0 if change.value <= 255 => next.links = testlib_text::low8(change.value),
+        1 if fits => next.offsets[change.index] = word,
+        2 if fits => next.periods[change.index] = word,
+        _ => {}
     }
     next
 }
 
 // The schedule with all the changes of a line made in turn.
-fn altered(schedule: Schedule, line: &[u8], start: usize) -> Schedule {
+fn altered(schedule: Schedule, mut numbers: Numbers) -> Schedule {
     let mut next = schedule;
-    let mut at = start;
-    while at < line.len() {
-        let change = testlib_text::next_change(line, at);
-        let more = changed(next, change);
-        next = more;
-        at = change.next;
+    while let Some(change) = numbers.next_change() {
+        next = changed(next, change);
     }
     next
 }
 
-fn put_left(out: &mut [u8], schedule: Schedule, space: &mut [u8]) -> usize {
-    let written = schedule_writer::write_schedule_of(schedule, space);
-    testlib_text::put_left(out, 0, b"schedule", written, space)
-}
-
-// A length for which there is no slice puts nothing: the number of bytes is then one that no line has, and nothing is printed.
-fn put_writing(out: &mut [u8], line: &[u8], schedule: Schedule) -> usize {
-    let room = testlib_text::next_number(line, 0);
-    let n = room.value;
+// Writes the schedule with the line's changes; prints nothing for a length of which there is no slice.
+fn show_writing(page: &mut Page, line: &[u8], schedule: Schedule) {
+    let mut numbers = Numbers::of(line);
+    let size = numbers.next().unwrap_or(0);
     let mut space = testlib_text::numbered();
-    let next = altered(schedule, line, room.next);
-    if 64 < n {
-        return usize::MAX;
+    if size <= 64 {
+        let next = altered(schedule, numbers);
+        let written = schedule_writer::write_schedule_of(next, &mut space[..size]);
+        testlib_text::put_left(page, b"schedule", written, &space[..size]);
+        testlib_text::print_line(page);
     }
-    put_left(out, next, &mut space[0..n])
 }
 
 // Writes the schedule into a slice of just the file's length and compares.
-fn put_again(
-    out: &mut [u8],
-    at: usize,
-    bytes: &[u8],
-    schedule: Schedule,
-    space: &mut [u8],
-) -> usize {
+fn put_again(page: &mut Page, bytes: &[u8], schedule: Schedule, space: &mut [u8]) {
     let written = schedule_writer::write_schedule_of(schedule, space);
-    let told = testlib_text::put_written(out, at, b" written", written);
-    if check::same(bytes, space) {
-        return slices::put(out, told, b" equal");
+    testlib_text::put_written(page, b" written", written);
+    if bytes == space {
+        page.put(b" equal");
     }
-    told
 }
 
-fn put_accepted(out: &mut [u8], bytes: &[u8], schedule: Schedule) -> usize {
-    let mut space = [0u8; 2048];
-    let n = bytes.len();
-    let told = text::put_field(out, 0, b"accepted links ", schedule.links as u64);
-    if 2048 < n {
-        return told;
+fn put_reading(page: &mut Page, bytes: &[u8], read: Reading) {
+    let mut space = [0; 2048];
+    let size = bytes.len();
+    if let Err(refusal) = read.verdict {
+        report_lines::put_refusal(page, refusal);
+        return;
     }
-    put_again(out, told, bytes, schedule, &mut space[0..n])
-}
-
-fn put_reading(out: &mut [u8], bytes: &[u8], read: Reading) -> usize {
-    let verdict = read.verdict;
-    match verdict {
-        Verdict::Accepted => put_accepted(out, bytes, read.schedule),
-        Verdict::Refused(number, place) => report_lines::put_refusal(out, 0, number, place),
+    page.put_field(b"accepted links ", u64::from(read.schedule.links));
+    if size <= 2048 {
+        put_again(page, bytes, read.schedule, &mut space[..size]);
     }
 }
 
 // Answers the schedule that the file of the line reads to.
-fn show_file(out: &mut [u8], line: &[u8]) -> Schedule {
-    let mut bytes = [0u8; 2048];
-    let n = testlib_text::parse_hex(line, &mut bytes);
-    let read = schedule_reader::read_schedule(&bytes[0..n]);
-    let size = put_reading(out, &bytes[0..n], read);
-    testlib_text::print_line(out, size);
+fn show_file(page: &mut Page, line: &[u8]) -> Schedule {
+    let mut space = [0; 2048];
+    let size = testlib_text::parse_hex(line, &mut space);
+    let bytes = space.get(..size).unwrap_or(&[]);
+    let read = schedule_reader::read_schedule(bytes);
+    put_reading(page, bytes, read);
+    testlib_text::print_line(page);
     read.schedule
 }
 
 // Answers the schedule to be altered from here on. 512 bytes have room for every line: a byte that is left takes three of them.
 fn show_line(line: &[u8], schedule: Schedule) -> Schedule {
-    let mut out = [0u8; 512];
-    if testlib_text::begins(line, b'#') {
-        let size = slices::put(&mut out, 0, line);
-        testlib_text::print_line(&mut out, size);
-        return schedule;
+    let mut out = [0; 512];
+    let mut page = Page::over(&mut out);
+    match line {
+        [b'#', ..] => {
+            page.put(line);
+            testlib_text::print_line(&mut page);
+            schedule
+        }
+        [b'W', ..] => {
+            show_writing(&mut page, line, schedule);
+            schedule
+        }
+        _ => show_file(&mut page, line),
     }
-    if testlib_text::begins(line, b'W') {
-        let size = put_writing(&mut out, line, schedule);
-        testlib_text::print_line(&mut out, size);
-        return schedule;
-    }
-    show_file(&mut out, line)
 }
 
 fn show_lines(text: &[u8]) {
-    let mut schedule = schedule_check::without_links();
-    let mut rest = text;
-    while 0 < rest.len() {
-        let line = testlib_text::first_line(rest);
-        let next = show_line(line, schedule);
-        schedule = next;
-        let behind = testlib_text::behind_line(rest, line.len());
-        rest = behind;
+    let mut schedule = Schedule::without_links();
+    for line in text.split_inclusive(|byte| *byte == b'\n') {
+        schedule = show_line(line.strip_suffix(b"\n").unwrap_or(line), schedule);
     }
 }
 
 fn main() {
-    let mut text = [0u8; 131072];
+    let mut text = [0; 131072];
     let n = io::read_full(0, &mut text);
     show_lines(&text[..n]);
 }

@@ -2,90 +2,67 @@
 // A line that begins with `#` is printed as it stands.
 #![tactic(auto)]
 
-use rulings::Verdict;
 use site::Site;
-use slices::Written;
+use text::Page;
 
 // Writes the site into a slice of just the plan's length and compares.
-fn put_again(out: &mut [u8], at: usize, bytes: &[u8], site: Site, space: &mut [u8]) -> usize {
+fn put_again(page: &mut Page, bytes: &[u8], site: Site, space: &mut [u8]) {
     let written = plan_writer::write_plan(site, space);
-    let told = testlib_text::put_written(out, at, b" plan", written);
-    if check::same(bytes, space) {
-        return slices::put(out, told, b" equal");
+    testlib_text::put_written(page, b" plan", written);
+    if bytes == space {
+        page.put(b" equal");
     }
-    told
-}
-
-fn put_first(out: &mut [u8], at: usize, bytes: &[u8], n: usize) -> usize {
-    if bytes.len() < n {
-        return at;
-    }
-    hexadecimal::put_hex(out, at, &bytes[0..n])
 }
 
 // 379 bytes are those of 63 links.
-fn put_schedule(out: &mut [u8], at: usize, site: Site) -> usize {
-    let mut space = [0u8; 379];
+fn put_schedule(page: &mut Page, site: Site) {
+    let mut space = [0; 379];
     let written = schedule_writer::write_schedule(site, &mut space);
-    let told = testlib_text::put_written(out, at, b" schedule", written);
-    match written {
-        Written::Length(n) => put_first(out, told, &space, n),
-        Written::Refused(_, _) => told,
+    testlib_text::put_written(page, b" schedule", written);
+    if let Ok(size) = written {
+        hexadecimal::put_hex(page, space.get(..size).unwrap_or(&[]));
     }
 }
 
-fn put_accepted(out: &mut [u8], bytes: &[u8], site: Site) -> usize {
-    let mut space = [0u8; 2048];
-    let n = bytes.len();
-    let told = text::put_field(out, 0, b"accepted links ", site.links as u64);
-    if 2048 < n {
-        return told;
-    }
-    let written = put_again(out, told, bytes, site, &mut space[0..n]);
-    put_schedule(out, written, site)
-}
-
-fn put_plan(out: &mut [u8], bytes: &[u8]) -> usize {
-    let read = plan_reader::read_plan(bytes);
-    let verdict = read.verdict;
-    match verdict {
-        Verdict::Accepted => put_accepted(out, bytes, read.site),
-        Verdict::Refused(number, place) => report_lines::put_refusal(out, 0, number, place),
+fn put_accepted(page: &mut Page, bytes: &[u8], site: Site) {
+    let mut space = [0; 2048];
+    let size = bytes.len();
+    page.put_field(b"accepted links ", u64::from(site.links));
+    if size <= 2048 {
+        put_again(page, bytes, site, &mut space[..size]);
+        put_schedule(page, site);
     }
 }
 
-fn put_given(out: &mut [u8], line: &[u8]) -> usize {
-    let mut bytes = [0u8; 2048];
-    let n = testlib_text::parse_hex(line, &mut bytes);
-    put_plan(out, &bytes[0..n])
-}
-
-fn put_line(out: &mut [u8], line: &[u8]) -> usize {
-    if testlib_text::begins(line, b'#') {
-        return slices::put(out, 0, line);
+fn put_plan(page: &mut Page, bytes: &[u8]) {
+    match plan_reader::read_site(bytes) {
+        Ok(site) => put_accepted(page, bytes, site),
+        Err(refusal) => report_lines::put_refusal(page, refusal),
     }
-    put_given(out, line)
 }
 
 // 2,048 bytes have room for every line: a byte of the schedule takes three of them.
 fn show_line(line: &[u8]) {
-    let mut out = [0u8; 2048];
-    let size = put_line(&mut out, line);
-    testlib_text::print_line(&mut out, size);
+    let mut out = [0; 2048];
+    let mut page = Page::over(&mut out);
+    if testlib_text::begins(line, b'#') {
+        page.put(line);
+    } else {
+        let mut bytes = [0; 2048];
+        let size = testlib_text::parse_hex(line, &mut bytes);
+        put_plan(&mut page, bytes.get(..size).unwrap_or(&[]));
+    }
+    testlib_text::print_line(&mut page);
 }
 
 fn show_lines(text: &[u8]) {
-    let mut rest = text;
-    while 0 < rest.len() {
-        let line = testlib_text::first_line(rest);
-        show_line(line);
-        let behind = testlib_text::behind_line(rest, line.len());
-        rest = behind;
+    for line in text.split_inclusive(|byte| *byte == b'\n') {
+        show_line(line.strip_suffix(b"\n").unwrap_or(line));
     }
 }
 
 fn main() {
-    let mut text = [0u8; 131072];
+    let mut text = [0; 131072];
     let n = io::read_full(0, &mut text);
     show_lines(&text[..n]);
 }

@@ -3,8 +3,7 @@ use Rattle.std.specs.Prelude.{ℕ, zero, suc, cond, List, [], ltb, leb, eqb, len
 use Rattle.site.specs.declared.Site.{Site}
 use Rattle.judgement.specs.Judge.{with_site}
 use Rattle.plan_reader.specs.Read.{read_of}
-use Rattle.testlib_text.specs.declared.Change.{Change}
-use Rattle.testlib_text.specs.Lines.{change_from}
+use Rattle.testlib_text.specs.Lines.{ChangeAt, change_from}
 use Rattle.testlib_text.specs.Hex.{hex_bytes}
 use Rattle.testlib_changes.specs.Changed.{fields_of}
 
@@ -36,7 +35,7 @@ unfoldable pub with_entry : Site → ℕ → ℕ → ℕ → Site
 with_entry s field index value = site_of (set (fields_of s) field (set (get_or (fields_of s) field []) (place_of field index) value))
 
 -- The same for a change that is complete and whose value is not too large.
-unfoldable pub changed : Site → Change → Site
+unfoldable pub changed : Site → ChangeAt → Site
 changed s c = cond c.found (cond (leb c.value (largest_of c.field)) (with_entry s c.field c.index c.value) s) s
 
 -- The changes of a line from an index on, made in turn, where so many steps are enough.

@@ -1,13 +1,22 @@
 -- Lines of text with decimal numbers.
-use Rattle.std.specs.Prelude.{ℕ, ◌+◌, ◌-◌, Bool, true, false, cond, not, List, [], ◌∷◌, ltb, eqb, length, get_or, take, drop}
+use Rattle.std.specs.Prelude.{ℕ, ◌+◌, ◌-◌, ◌≡◌, Bool, true, false, cond, not, List, [], ◌∷◌, ltb, eqb, length, get_or, take, drop, Option, Some, None}
 use Rattle.lists.specs.Search.{first_in}
 use Rattle.text.specs.Decimal.{is_digit, value_of}
-use Rattle.testlib_text.specs.declared.Number.{Number}
 use Rattle.testlib_text.specs.declared.Change.{Change}
 
--- What is left of a text behind a first line of n bytes and its newline.
-unfoldable pub behind_line : List ℕ → ℕ → List ℕ
-behind_line text n = drop (n + 1) text
+-- A number of a line, if it was found, and the index behind its last digit.
+pub record NumberAt : Type 0 where
+  pub found : Bool
+  pub value : ℕ
+  pub next : ℕ
+
+-- A change of an entry, if its three numbers were found, and the index behind them.
+pub record ChangeAt : Type 0 where
+  pub found : Bool
+  pub field : ℕ
+  pub index : ℕ
+  pub value : ℕ
+  pub next : ℕ
 
 -- The first byte of a line is this byte.
 unfoldable pub begins_with : List ℕ → ℕ → Bool
@@ -34,17 +43,17 @@ abbrev pub number_end : List ℕ → ℕ → ℕ
 number_end line first = scanned line first false
 
 -- The number whose digits stand from index `first` on and before index `next`: what the first ten of them say.
-abbrev pub decimal_at : List ℕ → ℕ → ℕ → Number
+abbrev pub decimal_at : List ℕ → ℕ → ℕ → NumberAt
 decimal_at line first next = record { found = true; value = value_of (take 10 (take (next - first) (drop first line))); next = next }
 
 -- The first number from `start` on.
-unfoldable pub number_from : List ℕ → ℕ → Number
+unfoldable pub number_from : List ℕ → ℕ → NumberAt
 number_from line start =
     cond (ltb (number_start line start) (length line)) (decimal_at line (number_start line start) (number_end line (number_start line start)))
     (record { found = false; value = 0; next = length line })
 
 -- The change that three numbers make; and that of the first three from `start` on, each behind the one before.
-abbrev pub change_of : Number → Number → Number → Change
+abbrev pub change_of : NumberAt → NumberAt → NumberAt → ChangeAt
 change_of field index value = record {
   found = value.found;
   field = field.value;
@@ -53,9 +62,17 @@ change_of field index value = record {
   next = value.next;
 }
 
-abbrev pub number_after : List ℕ → Number → Number
+abbrev pub number_after : List ℕ → NumberAt → NumberAt
 number_after line n = number_from line n.next
 
-unfoldable pub change_from : List ℕ → ℕ → Change
+unfoldable pub change_from : List ℕ → ℕ → ChangeAt
 change_from line start =
     change_of (number_from line start) (number_after line (number_from line start)) (number_after line (number_after line (number_from line start)))
+
+-- The number that a line gives from an index on, if there is one.
+abbrev pub number_told : NumberAt → Option ℕ
+number_told n = cond n.found (Some n.value) None
+
+-- The change that a line gives from an index on, if it is complete.
+abbrev pub change_told : ChangeAt → Option Change
+change_told c = cond c.found (Some (record { field = c.field; index = c.index; value = c.value })) None

@@ -1,73 +1,55 @@
 // What the test programs share: lines of text with plans in hexadecimal or numbers in decimal, and what they print.
-#![tactic(auto)]
+#![tactic(auto, unfolding(text::specs::Put::puts))]
 
-ghost use Rattle.std.specs.Prelude.{◌%◌, ◌-◌, ◌*◌, ◌+◌, ◌<◌, ◌≡◌, take};
-ghost use Rattle.text.specs.Decimal.{is_digit, value_of};
-ghost use Rattle.text.specs.Put.{puts};
-ghost use Rattle.slices.specs.Written.{writing};
-ghost use Rattle.line_words.specs.Parts.{before, is};
-ghost use Rattle.testlib_text.specs.Lines.{behind_line, begins_with, digit_is, scanned, number_from, change_from};
-ghost use Rattle.testlib_text.specs.Hex.{hex_value, hex_bytes, hex_stored, filled};
+ghost use Rattle.std.specs.Prelude.{◌%◌, ◌-◌, ◌*◌, ◌+◌, ◌<◌, ◌≡◌, length, take, cond, Some, None};
+ghost use Rattle.text.specs.Decimal.{value_of};
+ghost use Rattle.lists.specs.Search.{some_below};
+ghost use Rattle.testlib_text.specs.Lines.{begins_with, scanned, number_told, number_from, change_told, change_from};
+ghost use Rattle.text.specs.Page.{Adds, held};
+ghost use Rattle.rulings.specs.Outcome.{outcome};
 ghost use Rattle.testlib_text.specs.Printed.{written_text, left_text, numbered_bytes, line_shown};
+ghost use Rattle.testlib_text.specs.Hex.{hex_value, hex_bytes, hex_stored, filled};
 
-use slices::Written;
+use rulings::Refusal;
+use text::Page;
 
-// The first line of the text, without the newline that ends it.
-pub fn first_line(text: &[u8]) -> &[u8]
-    ensures { result.now ≡ before (is 10) text.now }
-{
-    let end = line_words::find(text, 0, b'\n');
-    &text[0..end]
-}
-
-// What is left of the text behind a first line of `size` bytes and its newline.
-pub fn behind_line(text: &[u8], size: usize) -> &[u8]
-    ensures { result.now ≡ behind_line text.now size }
-{
-    if size < text.len() {
-        let next = size + 1;
-        return &text[next..];
-    }
-    &text[0..0]
-}
-
+#[tactic(auto, using(crate::proofs::Laws::Lines::begins_some, crate::proofs::Laws::Lines::begins_none))]
 pub fn begins(line: &[u8], byte: u8) -> bool
     ensures { result ≡ begins_with line.now byte }
 {
-    if line.len() == 0 {
-        return false;
+    match line {
+        [first, ..] => *first == byte,
+        [] => false,
     }
-    line[0] == byte
 }
 
-// The value of a hexadecimal digit, 16 for any other byte.
-fn digit(c: u8) -> u8
-    ensures { result ≡ hex_value c }
+// The index of the first byte from `start` on that is a digit or, if `digit` is false, that is none.
+fn scan(line: &[u8], start: usize, digit: bool) -> Option<usize>
+    ensures { result ≡ some_below (length line.now) (scanned line.now start digit) }
 {
-    if c < b'0' {
-        return 16;
+    for at in start..line.len() {
+        if line[at].is_ascii_digit() == digit {
+            return Some(at);
+        }
     }
-    if c <= b'9' {
-        return c - b'0';
-    }
-    if c < b'A' {
-        return 16;
-    }
-    if c <= b'F' {
-        return c - b'A' + 10;
-    }
-    16
+    None
 }
 
-fn byte_of(high: u8, low: u8) -> u8
-    requires { (high < 16) × (low < 16) }
-    ensures { result ≡ high * 16 + low }
+// The value of a hexadecimal digit.
+#[tactic(auto, using(std::proofs::lemmas::Bool::Decides::nat_tests), unfolding(crate::specs::Hex::hex_value))]
+fn digit(c: u8) -> Option<u8>
+    ensures { result ≡ some_below 16 (hex_value c) }
 {
-    high * 16 + low
+    match c {
+        b'0'..=b'9' => Some(c - b'0'),
+        b'A'..=b'F' => Some(c - b'A' + 10),
+        _ => None,
+    }
 }
 
 // Puts the byte after the first n if there is room; answers how many there are then. A line may give more bytes than there is room for: where `slices::put`
 // answers one more than there are, this answers n, so that the bytes that are there can be read.
+#[tactic(auto, using(std::proofs::lemmas::Bool::Decides::nat_tests), unfolding(crate::specs::Hex::hex_stored))]
 fn store(bytes: &mut [u8], n: usize, byte: u8) -> usize
     ensures { (result, bytes.new) ≡ hex_stored (n, bytes.old) byte }
 {
@@ -79,137 +61,89 @@ fn store(bytes: &mut [u8], n: usize, byte: u8) -> usize
 }
 
 // The bytes that the line's pairs of hexadecimal digits stand for, as many as there is room for; answers how many these are.
+#[tactic(auto, using(crate::proofs::Laws::Hex::parsing))]
 pub fn parse_hex(line: &[u8], bytes: &mut [u8]) -> usize
     ensures { (result, bytes.new) ≡ filled (hex_bytes line.now) bytes.old }
 {
     let mut n = 0;
-    let mut high: u8 = 16;
-    let mut i = 0;
-    while i < line.len() {
-        let value = digit(line[i]);
-        i += 1;
-        if value < 16 {
-            if high < 16 {
-                n = store(bytes, n, byte_of(high, value));
-                high = 16;
+    let mut high = None;
+    for c in line {
+        if let Some(value) = digit(*c) {
+            if let Some(first) = high {
+                n = store(bytes, n, first * 16 + value);
+                high = None;
             } else {
-                high = value;
+                high = Some(value);
             }
         }
     }
     n
 }
 
-fn is_digit(c: u8) -> bool
-    ensures { result ≡ is_digit c }
-{
-    if c < b'0' {
-        return false;
-    }
-    c <= b'9'
-}
-
-fn sought(c: u8, digit: bool) -> bool
-    ensures { result ≡ digit_is digit c }
-{
-    if digit {
-        return is_digit(c);
-    }
-    !is_digit(c)
-}
-
-// The index of the first byte from `start` on that is a digit or, if `digit` is false, that is none.
-fn scan(line: &[u8], start: usize, digit: bool) -> usize
-    ensures { result ≡ scanned line.now start digit }
-{
-    let mut at = start;
-    while at < line.len() {
-        if sought(line[at], digit) {
-            return at;
-        }
-        at += 1;
-    }
-    at
-}
-
-// How far a byte is above the digit 0.
-fn above_zero(c: u8) -> usize
-    ensures { result ≡ c - 48 }
-{
-    if c < b'0' {
-        return 0;
-    }
-    (c - b'0') as usize
-}
-
 // What the first ten digits say: enough for every number of 32 bits.
+#[tactic(auto, using(crate::proofs::Laws::Lines::saying))]
 fn value_of(digits: &[u8]) -> usize
     ensures { result ≡ value_of (take 10 digits.now) }
 {
-    let mut value: usize = 0;
-    let mut i = 0;
-    while i < digits.len() {
-        if i == 10 {
-            return value;
-        }
-        value = value * 10 + above_zero(digits[i]);
-        i += 1;
+    let few = &digits[..digits.len().min(10)];
+    let mut value = 0;
+    for digit in few {
+        value = value * 10 + usize::from(digit.saturating_sub(b'0'));
     }
     value
 }
 
-// A decimal number of a line and the index behind its last digit. Where there is none, `found` is false and the index is the line's length.
-#[derive(Clone, Copy)]
-pub struct Number {
-    pub found: bool,
-    pub value: usize,
-    pub next: usize,
-}
-
-// The first decimal number of the line from `start` on.
-pub fn next_number(line: &[u8], start: usize) -> Number
-    ensures { result ≡ number_from line.now start }
-{
-    let first = scan(line, start, true);
-    if first < line.len() {
-        let next = scan(line, first, false);
-        let value = value_of(&line[first..next]);
-        return Number {
-            found: true,
-            value,
-            next,
-        };
-    }
-    Number {
-        found: false,
-        value: 0,
-        next: line.len(),
-    }
-}
-
-// A change of one entry that a line asks for: field, index and value, and the index of the line behind them. `found` is false where one of the three is missing.
-#[derive(Clone, Copy)]
+// A change of an entry of a site or of a schedule.
+#[derive(Clone, Copy, PartialEq, Eq, Debug)]
 pub struct Change {
-    pub found: bool,
     pub field: usize,
     pub index: usize,
     pub value: usize,
-    pub next: usize,
 }
 
-// The first change of the line from `start` on.
-pub fn next_change(line: &[u8], start: usize) -> Change
-    ensures { result ≡ change_from line.now start }
-{
-    let field = next_number(line, start);
-    let index = next_number(line, field.next);
-    let value = next_number(line, index.next);
-    Change {
-        found: value.found,
-        field: field.value,
-        index: index.value,
-        value: value.value,
-        next: value.next,
+// The decimal numbers of a line, one after the other.
+#[derive(Clone, Copy)]
+pub struct Numbers<'a> {
+    pub line: &'a [u8],
+    pub at: usize,
+}
+
+impl<'a> Numbers<'a> {
+    pub fn of(line: &'a [u8]) -> Numbers<'a>
+        ensures { (result.line.now ≡ line.now) × (result.at ≡ 0) }
+    {
+        Numbers { line, at: 0 }
+    }
+
+    // The next number of the line.
+    pub fn next(&mut self) -> Option<usize>
+        ensures line { self.new.line.now ≡ self.old.line.now }
+        ensures behind { self.new.at ≡ (number_from self.old.line.now self.old.at).next }
+        ensures value { result ≡ number_told (number_from self.old.line.now self.old.at) }
+    {
+        let Some(first) = scan(self.line, self.at, true) else {
+            self.at = self.line.len();
+            return None;
+        };
+        let end = scan(self.line, first, false).unwrap_or(self.line.len());
+        self.at = end;
+        Some(value_of(&self.line[first..end]))
+    }
+    // The change that the next three numbers ask for.
+    #[tactic(auto, using(crate::proofs::Laws::Lines::changing))]
+    pub fn next_change(&mut self) -> Option<Change>
+        ensures line { self.new.line.now ≡ self.old.line.now }
+        ensures behind { self.new.at ≡ (change_from self.old.line.now self.old.at).next }
+        ensures value { result ≡ change_told (change_from self.old.line.now self.old.at) }
+    {
+        let field = self.next()?;
+        let index = self.next()?;
+        let value = self.next()?;
+        Some(Change {
+            field,
+            index,
+            value,
+        })
     }
 }
 
@@ -227,46 +161,45 @@ pub fn low16(value: usize) -> u16
 }
 
 // Byte i is 100 + i, so that every byte that a writer leaves alone can be told.
+#[tactic(auto, using(crate::proofs::Laws::Marks::marking))]
 pub fn numbered() -> [u8; 64]
     ensures { result ≡ numbered_bytes }
 {
-    let mut out = [0u8; 64];
-    let mut i: u8 = 0;
-    while i < 64 {
-        out[i as usize] = 100 + i;
-        i += 1;
+    let mut out = [0; 64];
+    for i in 0..64 {
+        out[usize::from(i)] = 100 + i;
     }
     out
 }
 
 // A writer's answer: the number of bytes, or the refusal.
-pub fn put_written(out: &mut [u8], at: usize, name: &[u8], written: Written) -> usize
-    ensures { (result, out.new) ≡ puts (at, out.old) (written_text name.now (writing written)) }
+#[tactic(auto, unfolding(text::specs::Put::puts, crate::specs::Printed::written_text))]
+pub fn put_written(page: &mut Page, name: &[u8], written: Result<usize, Refusal>)
+    ensures { Adds page.old page.new (written_text name.now (outcome written)) }
 {
-    let named = slices::put(out, at, name);
+    page.put(name);
+    page.put(b" ");
     match written {
-        Written::Length(n) => text::put_field(out, named, b" ", n as u64),
-        Written::Refused(number, place) => {
-            let spaced = slices::put(out, named, b" ");
-            report_lines::put_refusal(out, spaced, number, place)
-        }
+        Ok(size) => page.put_decimal(size as u64),
+        Err(refusal) => report_lines::put_refusal(page, refusal),
     }
 }
 
 // A writer's answer, and what the slice holds then.
-pub fn put_left(out: &mut [u8], at: usize, name: &[u8], written: Written, bytes: &[u8]) -> usize
-    ensures { (result, out.new)
-        ≡ puts (at, out.old) (left_text name.now (writing written) bytes.now) }
+#[tactic(auto, using(text::proofs::Laws::Put::puts_append), unfolding(text::specs::Put::puts, crate::specs::Printed::left_text))]
+pub fn put_left(page: &mut Page, name: &[u8], written: Result<usize, Refusal>, bytes: &[u8])
+    ensures { Adds page.old page.new (left_text name.now (outcome written) bytes.now) }
 {
-    let told = put_written(out, at, name, written);
-    let parted = slices::put(out, told, b":");
-    hexadecimal::put_hex(out, parted, bytes)
+    put_written(page, name, written);
+    page.put(b":");
+    hexadecimal::put_hex(page, bytes);
 }
 
-// Prints the first `size` bytes as a line; answers how many bytes it handed over, none without room for the newline.
-pub fn print_line(out: &mut [u8], size: usize) -> usize
-    ensures { (result, out.new) ≡ line_shown (size, out.old) }
+// Prints what is put on the page as a line; answers how many bytes it handed over, none without room for the newline.
+#[tactic(auto, unfolding(text::specs::Put::puts, crate::specs::Printed::line_shown))]
+pub fn print_line(page: &mut Page) -> usize
+    ensures { (result, page.new.space.now) ≡ line_shown (held page.old) }
 {
-    let ended = slices::put(out, size, b"\n");
-    printing::print_front(out, ended)
+    page.put(b"\n");
+    printing::print_page(page)
 }

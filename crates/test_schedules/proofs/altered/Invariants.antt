@@ -1,10 +1,7 @@
--- Right because each change lies behind the one before; length line - at falls.
+-- Right because each change takes a part of the line away, so that less is left of it.
 use Prim.Native.Nat.{◌-◌}
 use lib.ListN.{length}
 use Rattle.test_schedules.proofs.altered.Given as goal
 
-abbrev pub invariant-loop-at : goal.invariant-loop-at
-invariant-loop-at l = Unit {0}
-
-abbrev pub decreases-loop-at : goal.decreases-loop-at
-decreases-loop-at l = length l.line - l.at
+abbrev pub decreases-loop-change : goal.decreases-loop-change
+decreases-loop-change l = length l.numbers.line.now - l.numbers.at

@@ -10,7 +10,9 @@ use lib.Seq.{drop-cons, set_at, append_snoc, take_all, take_at, take-append-le}
 use borrow.Author.Tests.{lt-ltb, le-ltb}
 use native.Mathlib.Numerals.{add-one}
 use native.Mathlib.Omega.{arith}
-use Rattle.lists.proofs.Laws.Search.{lt_or_le}
+use Rattle.std.specs.Prelude.{Option, Some, None, IfSome}
+use Rattle.lists.specs.Search.{some_below}
+use Rattle.lists.proofs.Laws.Search.{lt_or_le, below_is, past_is}
 use Rattle.testlib_text.specs.Hex.{hex_value, hex_values, paired, hex_bytes, hex_stored, filled}
 
 -- With room for all of the bytes, and without.
@@ -70,15 +72,17 @@ filled_more bytes out byte = elim (lt_or_le (length bytes) (length out)) [
       )
 ]
 
--- A digit that waits for its second one; 16 is none.
-abbrev waiting : ℕ → List ℕ → List ℕ
-waiting high values = cond (ltb high 16) (high ∷ values) values
+-- A digit that waits for its second one, or none.
+abbrev waiting : Option ℕ → List ℕ → List ℕ
+waiting None values = values
+waiting (Some high) values = high ∷ values
 
 -- The bytes of the digits before index i are stored; those of the others make the rest.
-pub record Parsed (line old : List ℕ) (i high n : ℕ) (out : List ℕ) : Type 0 where
+pub record Parsed (line old : List ℕ) (i : ℕ) (high : Option ℕ) (n : ℕ) (out : List ℕ) : Type 0 where
   pub done : List ℕ
   pub kept : (n, out) ≡ filled done old
   pub rest : done ++ paired (waiting high (hex_values (drop i line))) ≡ hex_bytes line
+  pub low : IfSome high (λ h. h < 16)
 
 values_more : (line : List ℕ) (i : ℕ) → i < length line
     → hex_values (drop i line) ≡ cond (ltb (hex_value (get_or line i 0)) 16) (hex_value (get_or line i 0) ∷ hex_values (drop (i + 1) line)) (hex_values (drop (i + 1) line))
@@ -86,55 +90,57 @@ unfolding hex_values
 values_more line i l = rw (add-one i, drop-cons line i 0 l)
 
 module _ (line old : List ℕ) where
-  pub parsed_start : Parsed line old 0 16 0 old
+  pub parsed_start : Parsed line old 0 None 0 old
   unfolding hex_bytes
-  parsed_start = record { done = []; kept = sym (filled_room [] old (omega arith)); rest = refl }
+  parsed_start = record { done = []; kept = sym (filled_room [] old (omega arith)); rest = refl; low = tt }
 
-  pub parsed_long : (i high n : ℕ) (out : List ℕ) → Parsed line old i high n out → length out ≡ length old
-  parsed_long i high n out p = ap (λ (s : ℕ × List ℕ). length s.1) p.kept ∙ filled_long p.done old
+  module _ (i : ℕ) (high : Option ℕ) (n : ℕ) (out : List ℕ) (p : Parsed line old i high n out) where
+    pub parsed_long : length out ≡ length old
+    parsed_long = ap (λ (s : ℕ × List ℕ). length s.1) p.kept ∙ filled_long p.done old
 
-  pub parsed_end : (i high n : ℕ) (out : List ℕ) → Parsed line old i high n out → length line ≤ i → (n, out) ≡ filled (hex_bytes line) old
-  unfolding hex_values paired
-  parsed_end i high n out p l =
-      p.kept ∙ ap (λ (bytes : List ℕ). filled bytes old) (sym (append-nil p.done) ∙ ap (λ (bytes : List ℕ). p.done ++ bytes) (sym none) ∙ p.rest)
-    where
-      lone : (t : Bool) → paired (cond t (high ∷ []) []) ≡ []
-      lone true = refl
-      lone false = refl
+    pub parsed_end : length line ≤ i → (n, out) ≡ filled (hex_bytes line) old
+    unfolding hex_values paired
+    parsed_end l =
+        p.kept ∙ ap (λ (bytes : List ℕ). filled bytes old) (sym (append-nil p.done) ∙ ap (λ (bytes : List ℕ). p.done ++ bytes) (sym none) ∙ p.rest)
+      where
+        lone : (h : Option ℕ) → paired (waiting h []) ≡ []
+        lone None = refl
+        lone (Some h) = refl
 
-      none : paired (waiting high (hex_values (drop i line))) ≡ []
-      none = rw (drop_of_length-le line l) (lone (ltb high 16))
+        none : paired (waiting high (hex_values (drop i line))) ≡ []
+        none = rw (drop_of_length-le line l) (lone high)
 
-  module _ (i high n value : ℕ) (out : List ℕ) (p : Parsed line old i high n out) (l : i < length line) (e : value ≡ hex_value (get_or line i 0)) where
-    pub parsed_passed : 16 ≤ value → Parsed line old (i + 1) high n out
-    parsed_passed h = record {
-      done = p.done;
-      kept = p.kept;
-      rest = rw (values_more line i l, ← e, le-ltb value 16 h) at p.rest;
-    }
+    module _ (l : i < length line) where
+      pub parsed_passed : None ≡ some_below 16 (hex_value (get_or line i 0)) → Parsed line old (i + 1) high n out
+      parsed_passed e = record {
+        done = p.done;
+        kept = p.kept;
+        rest = rw (values_more line i l, le-ltb _ _ (past_is _ _ e)) at p.rest;
+        low = p.low;
+      }
 
-    pub parsed_first : value < 16 → 16 ≤ high → Parsed line old (i + 1) value n out
-    parsed_first h g = record {
-      done = p.done;
-      kept = p.kept;
-      rest = rw (lt-ltb value 16 h) (rw (values_more line i l, ← e, lt-ltb value 16 h, le-ltb high 16 g) at p.rest);
-    }
+  module _ (i n value : ℕ) (out : List ℕ) (l : i < length line) (e : Some value ≡ some_below 16 (hex_value (get_or line i 0))) where
+    pub parsed_first : Parsed line old i None n out → Parsed line old (i + 1) (Some value) n out
+    parsed_first p =
+        let w = below_is _ _ _ e in
+        record {
+          done = p.done;
+          kept = p.kept;
+          rest = rw w.0 (rw (values_more line i l, lt-ltb _ _ w.1) at p.rest);
+          low = omega (arith, w);
+        }
 
-    pub parsed_second : (byte m : ℕ) (new : List ℕ) → value < 16 → high < 16 → byte ≡ high * 16 + value → (m, new) ≡ hex_stored (n, out) byte
-        → Parsed line old (i + 1) 16 m new
+    pub parsed_second : (high m : ℕ) (new : List ℕ) → Parsed line old i (Some high) n out → (m, new) ≡ hex_stored (n, out) (high * 16 + value)
+        → Parsed line old (i + 1) None m new
     unfolding paired
-    parsed_second byte m new h g b s = record {
-      done = p.done ++ (byte ∷ []);
-      kept = s ∙ ap (λ (t : ℕ × List ℕ). hex_stored t byte) p.kept ∙ filled_more p.done old byte;
-      rest = append_assoc p.done (byte ∷ []) (paired (hex_values (drop (i + 1) line)))
-          ∙ rw b (rw (values_more line i l, ← e, lt-ltb value 16 h, lt-ltb high 16 g) at p.rest);
-    }
+    parsed_second high m new p s =
+        let w = below_is _ _ _ e in
+        record {
+          done = p.done ++ ((high * 16 + value) ∷ []);
+          kept = s ∙ ap (λ (t : ℕ × List ℕ). hex_stored t (high * 16 + value)) p.kept ∙ filled_more p.done old (high * 16 + value);
+          rest = append_assoc p.done ((high * 16 + value) ∷ []) (paired (hex_values (drop (i + 1) line)))
+              ∙ rw w.0 (rw (values_more line i l, lt-ltb _ _ w.1) at p.rest);
+          low = tt;
+        }
 
--- A byte behind the others, if there is room.
-pub stored_room : (n byte : ℕ) (out : List ℕ) → n < length out → (n + 1, set out n byte) ≡ hex_stored (n, out) byte
-unfolding hex_stored
-stored_room n byte out l = rw (lt-ltb _ _ l)
-
-pub stored_full : (n byte : ℕ) (out : List ℕ) → length out ≤ n → (n, out) ≡ hex_stored (n, out) byte
-unfolding hex_stored
-stored_full n byte out l = rw (le-ltb _ _ l)
+pub ruleset parsing = (parsed_start, parsed_long, parsed_end, parsed_passed, parsed_first, parsed_second)

@@ -1,23 +1,25 @@
 -- Lines and numbers: what each step of a search leaves, and that what is found lies behind the start and within the line.
 use Prim.Native.Nat.{ℕ, suc, ◌+◌, ◌-◌, ◌*◌, ◌^◌, ◌≤◌, ◌<◌}
 use mathlib.Core.Path.{◌≡◌, refl, sym, ◌∙◌, ap}
-use mathlib.Core.Bool.{Bool, true, false, not}
+use mathlib.Core.Bool.{Bool, true, false, not, cond, beq, false≢true}
 use mathlib.Core.List.{List, [], ◌∷◌}
-use mathlib.Core.Logic.{inl, inr}
-use lib.Dec.{eqb}
+use mathlib.Core.Logic.{◌⊎◌, inl, inr}
+use lib.Dec.{eqb, ltb}
 use lib.ListN.{length, get_or, take, drop, length-drop, drop_of_length-le}
-use lib.Seq.{drop-cons, take-nil, take_all}
+use lib.Seq.{drop-cons, take_all}
 use borrow.Author.Tests.{lt-ltb, le-ltb}
 use native.Mathlib.Nat.{pow-suc, pow-le-pow_right}
 use native.Mathlib.Numerals.{add-one}
 use native.Mathlib.Omega.{arith}
-use Rattle.lists.specs.Search.{first}
-use Rattle.lists.proofs.Laws.Search.{lt_or_le, first_miss, first_passes}
+use Rattle.std.specs.Prelude.{Option, Some, None}
+use Rattle.testlib_text.specs.declared.Change.{Change}
+use Rattle.std.specs.Option.{unwrap_or}
+use Rattle.std.proofs.lemmas.Option.{none-some, cond_some}
+use Rattle.lists.specs.Search.{first, some_below}
+use Rattle.lists.proofs.Laws.Search.{lt_or_le, first_hit, first_miss, first_end, first_passes, below_when, past_when, below_is, past_is}
 use Rattle.text.specs.Decimal.{is_digit, value_from, value_of}
 use Rattle.line_words.proofs.Laws.Parts.{first_bounds}
-use Rattle.testlib_text.specs.declared.Number.{Number}
-use Rattle.testlib_text.specs.declared.Change.{Change}
-use Rattle.testlib_text.specs.Lines.{behind_line, begins_with, index_from, scanned, number_start, number_end, decimal_at, number_from, number_after, change_of, change_from}
+use Rattle.testlib_text.specs.Lines.{NumberAt, ChangeAt, number_told, change_told, digit_is, begins_with, index_from, scanned, number_start, number_end, decimal_at, number_from, number_after, change_of, change_from}
 
 -- The first byte of a line, where there is one.
 pub begins_none : (line : List ℕ) (byte : ℕ) → length line ≡ 0 → false ≡ begins_with line byte
@@ -30,20 +32,6 @@ unfolding begins_with
 begins_some [] byte n = absurd (n refl)
 begins_some (c ∷ cs) byte n = refl
 
--- Behind a line the text goes on from the byte after the newline, or has nothing. Either way less is left of it.
-module _ (text : List ℕ) (n : ℕ) where
-  pub behind_some : take (length text - (n + 1)) (drop (n + 1) text) ≡ behind_line text n
-  unfolding behind_line
-  behind_some = take_all (length text - (n + 1)) (drop (n + 1) text) (simp length-drop (omega arith))
-
-  pub behind_none : length text ≤ n → [] ≡ behind_line text n
-  unfolding behind_line
-  behind_none l = sym (drop_of_length-le text {i = n + 1} (omega arith))
-
-  pub behind_shorter : (rest : List ℕ) → rest ≡ behind_line text n → 0 < length text → length rest < length text
-  unfolding behind_line
-  behind_shorter rest e l = rw e (simp length-drop (omega arith))
-
 -- What a search over the bytes of a line finds lies behind its start and within the line.
 module _ (p : ℕ → Bool) (bytes : List ℕ) (start : ℕ) where
   index_from_lem : start ≤ index_from p bytes start
@@ -52,44 +40,36 @@ module _ (p : ℕ → Bool) (bytes : List ℕ) (start : ℕ) where
   index_within : start ≤ length bytes → index_from p bytes start ≤ length bytes
   index_within l = omega (arith, (first_bounds (λ i. p (get_or bytes i 0)) (length bytes - start) start).1)
 
--- What is left of ten digits says the rest.
-pub record Saying (digits : List ℕ) (i value : ℕ) : Type 0 where
-  pub upto : i ≤ 10
-  pub small : value + 23 ≤ 23 * 10 ^ i
-  pub rest : value_from value (take (10 - i) (drop i digits)) ≡ value_of (take 10 digits)
+-- What is left of ten digits, or fewer, says the rest.
+pub record Saying (few : List ℕ) (i value : ℕ) : Type 0 where
+  pub small : value + 29 ≤ 29 * 10 ^ i
+  pub rest : value_from value (drop i few) ≡ value_of few
 
-module _ (digits : List ℕ) where
-  pub saying_start : Saying digits 0 0
+module _ (few : List ℕ) where
+  pub saying_start : Saying few 0 0
   unfolding value_of
-  saying_start = record { upto = omega arith; small = omega arith; rest = refl }
+  saying_start = record { small = omega arith; rest = refl }
 
-  pub saying_more : (i value above : ℕ) → Saying digits i value → i < length digits → (i ≡ 10 → ⊥) → above ≡ get_or digits i 0 - 48 → above ≤ 207
-      → Saying digits (i + 1) (value * 10 + above)
-  unfolding value_from
-  saying_more i value above s l n e few =
-      let p : 10 ^ suc i ≡ 10 ^ i * 10 = pow-suc 10 i in
-      let q : 10 - i ≡ suc (10 - suc i) = omega (arith, s.upto) in
-      let u : i ≤ 10 = s.upto in
-      let m : value + 23 ≤ 23 * 10 ^ i = s.small in
-      rw (add-one i) (record {
-        upto = omega arith;
-        small = omega arith;
-        rest = ap (λ (x : ℕ). value_from (value * 10 + x) (take (10 - suc i) (drop (suc i) digits))) e ∙ rw (q, drop-cons digits i 0 l) at s.rest;
-      })
+  module _ (i value : ℕ) (s : Saying few i value) where
+    pub saying_more : (above : ℕ) → i < length few → above ≡ get_or few i 0 - 48 → above ≤ 255 → Saying few (i + 1) (value * 10 + above)
+    unfolding value_from
+    saying_more above l e most =
+        let p : 10 ^ suc i ≡ 10 ^ i * 10 = pow-suc 10 i in
+        let m : value + 29 ≤ 29 * 10 ^ i = s.small in
+        rw (add-one i) (record {
+          small = omega arith;
+          rest = ap (λ (x : ℕ). value_from (value * 10 + x) (drop (suc i) few)) e ∙ rw (drop-cons few i 0 l) at s.rest;
+        })
 
-  pub saying_small : (i value : ℕ) → Saying digits i value → (i ≡ 10 → ⊥) → value ≤ 23000000000
-  saying_small i value s n =
-      let u : i ≤ 9 = omega (arith, s.upto) in
-      let m : 10 ^ i ≤ 10 ^ 9 = pow-le-pow_right (omega arith) u in
-      omega (arith, s.small)
+    pub saying_small : i < length few → length few ≤ 10 → value ≤ 29000000000
+    saying_small l ten =
+        let nine : i ≤ 9 = omega arith in
+        let m : 10 ^ i ≤ 10 ^ 9 = pow-le-pow_right (omega arith) nine in
+        omega (arith, s.small)
 
-  pub saying_ten : (i value : ℕ) → Saying digits i value → i ≡ 10 → value ≡ value_of (take 10 digits)
-  unfolding value_from
-  saying_ten i value s e = rw e at s.rest
-
-  pub saying_end : (i value : ℕ) → Saying digits i value → length digits ≤ i → value ≡ value_of (take 10 digits)
-  unfolding value_from
-  saying_end i value s l = rw (drop_of_length-le digits l, take-nil {A = ℕ} (10 - i)) at s.rest
+    pub saying_end : length few ≤ i → value ≡ value_of few
+    unfolding value_from
+    saying_end l = rw (drop_of_length-le few l) at s.rest
 
 -- A number that is found, and none.
 module _ (line : List ℕ) (start first : ℕ) (e : first ≡ number_start line start) where
@@ -155,10 +135,10 @@ module _ (line : List ℕ) (start : ℕ) where
 
 -- The second number behind the start, and the change that ends with the third.
 module _ (line : List ℕ) (start : ℕ) where
-  abbrev one : Number
+  abbrev one : NumberAt
   one = number_from line start
 
-  abbrev two : Number
+  abbrev two : NumberAt
   two = number_after line one
 
   pub pair_after : start < length line → start < two.next
@@ -168,14 +148,159 @@ module _ (line : List ℕ) (start : ℕ) where
   unfolding change_from
   change_after h = omega (arith, pair_after h, number_from_lem line two.next (number_within line one.next))
 
-pub change_less : (line : List ℕ) (start : ℕ) (w : Change) → w ≡ change_from line start → start < length line → length line - w.next < length line - start
-change_less line start w e l = rw e (omega (arith, change_after line start l))
+-- One step of a scan.
+module _ (line : List ℕ) (start at : ℕ) (digit : Bool) (here : scanned line start digit ≡ scanned line at digit) where
+  module _ (l : at < length line) (t : Bool) (e : t ≡ is_digit (get_or line at 0)) where
+    pub scan_hit : beq t digit ≡ true → Some at ≡ some_below (length line) (scanned line start digit)
+    unfolding scanned
+    scan_hit q = rw (here, first_hit (λ i. digit_is digit (get_or line i 0)) (length line) at l (sought digit t (get_or line at 0) e q)) (below_when _ _ l)
+      where
+        sought : (d t : Bool) (c : ℕ) → t ≡ is_digit c → beq t d ≡ true → digit_is d c ≡ true
+        sought true true c e q = sym e
+        sought true false c e q = absurd (false≢true q)
+        sought false true c e q = absurd (false≢true q)
+        sought false false c e q = rw (← e)
 
--- The change of three numbers, each behind the one before.
-pub change_made : (line : List ℕ) (start : ℕ) (field index value : Number) → field ≡ number_from line start → index ≡ number_from line field.next
-    → value ≡ number_from line index.next → change_of field index value ≡ change_from line start
-unfolding change_from
-change_made line start field index value e f g =
-    let i : index ≡ number_after line (number_from line start) = f ∙ ap (λ (n : Number). number_after line n) e in
-    let v : value ≡ number_after line (number_after line (number_from line start)) = g ∙ ap (λ (n : Number). number_after line n) i in
-    rw (e, i, v)
+    pub scan_miss : beq t digit ≡ false → scanned line start digit ≡ scanned line (at + 1) digit
+    unfolding scanned
+    scan_miss n = here ∙ first_miss (λ i. digit_is digit (get_or line i 0)) (length line) at l (passed digit t (get_or line at 0) e n)
+      where
+        passed : (d t : Bool) (c : ℕ) → t ≡ is_digit c → beq t d ≡ false → digit_is d c ≡ false
+        passed true true c e n = absurd (false≢true (sym n))
+        passed true false c e n = sym e
+        passed false true c e n = rw (← e)
+        passed false false c e n = absurd (false≢true (sym n))
+
+  pub scan_none : length line ≤ at → None ≡ some_below (length line) (scanned line start digit)
+  unfolding scanned
+  scan_none l = rw (here, first_end (λ i. digit_is digit (get_or line i 0)) (length line) at l) (past_when _ _ l)
+
+-- The next number of a line, or none.
+module _ (line : List ℕ) (at : ℕ) where
+  pub next_none : None ≡ some_below (length line) (number_start line at)
+      → (length line ≡ (number_from line at).next) × (None ≡ number_told (number_from line at))
+  next_none e =
+      let none = number_none line at _ refl (past_is _ _ e) in (ap (λ (n : NumberAt). n.next) none, rw (← none))
+
+  module _ (first end : ℕ) (e : Some first ≡ some_below (length line) (number_start line at))
+      (f : end ≡ unwrap_or (some_below (length line) (number_end line first)) (length line)) where
+    end_is : end ≡ number_end line first
+    end_is = go (lt_or_le (number_end line first) (length line))
+      where
+        go : (number_end line first < length line) ⊎ (length line ≤ number_end line first) → end ≡ number_end line first
+        go (inl l) = rw (lt-ltb _ _ l) at f
+        go (inr l) = rw (le-ltb _ _ l) at f ∙ omega (arith, end_within line first (omega (arith, below_is _ _ _ e)))
+
+    pub next_within : (first ≤ end) × (end ≤ length line)
+    next_within = rw end_is (end_from line first, end_within line first (omega (arith, below_is _ _ _ e)))
+
+    pub next_some : (value : ℕ) → value ≡ value_of (take 10 (take (end - first) (drop first line)))
+        → (end ≡ (number_from line at).next) × (Some value ≡ number_told (number_from line at))
+    next_some value v =
+        let here = below_is _ _ _ e in
+        let found = number_found line at first here.0 value end (omega (arith, here)) end_is v in
+        (ap (λ (n : NumberAt). n.next) found, rw (← found))
+
+told_is : (n : NumberAt) (x : ℕ) → Some x ≡ number_told n → (n.found ≡ true) × (x ≡ n.value)
+told_is n x e = let w = cond_some n.found n.value x (sym e) in (w.0, sym w.1)
+
+-- Where a number is missing, nothing is left of the line.
+module _ (line : List ℕ) where
+  abbrev missing : NumberAt
+  missing = record { found = false; value = 0; next = length line }
+
+  number_missing : (at : ℕ) → None ≡ number_told (number_from line at) → number_from line at ≡ missing
+  unfolding number_from
+  number_missing at e = go (lt_or_le (number_start line at) (length line)) e
+    where
+      go : (number_start line at < length line) ⊎ (length line ≤ number_start line at)
+          → None ≡ number_told (cond (ltb (number_start line at) (length line)) (decimal_at line (number_start line at) (number_end line (number_start line at))) missing)
+          → cond (ltb (number_start line at) (length line)) (decimal_at line (number_start line at) (number_end line (number_start line at))) missing ≡ missing
+      go (inl l) e = absurd (none-some _ (rw (lt-ltb _ _ l) at e))
+      go (inr l) e = rw (le-ltb _ _ l)
+
+  number_beyond : (at : ℕ) → length line ≤ at → number_from line at ≡ missing
+  unfolding number_from scanned
+  number_beyond at l =
+      let past : number_start line at ≡ at = first_end (λ i. digit_is true (get_or line i 0)) (length line) at l in
+      rw (past, le-ltb at (length line) l)
+
+  number_past : number_from line (length line) ≡ missing
+  number_past = number_beyond (length line) (omega arith)
+
+  -- The line and the index that each number leaves are those of the next.
+  module _ (at : ℕ) where
+    pub first_missing : (o : Option Change) → None ≡ number_told (number_from line at) → o ≡ None
+        → ((number_from line at).next ≡ (change_from line at).next) × (o ≡ change_told (change_from line at))
+    unfolding change_from
+    first_missing o e q = rw (q, number_missing at e, number_past, number_past) (refl, refl)
+
+    module _ (line' : List ℕ) (at' : ℕ) (l : line' ≡ line) (a : at' ≡ (number_from line at).next) where
+      pub second_missing : (o : Option Change) → None ≡ number_told (number_from line' at') → o ≡ None
+          → ((number_from line' at').next ≡ (change_from line at).next) × (o ≡ change_told (change_from line at))
+      unfolding change_from
+      second_missing o e q = let f = rw (l, a) at e in rw (q, l, a, number_missing _ f, number_past) (refl, refl)
+
+      module _ (line'' : List ℕ) (at'' : ℕ) (m : line'' ≡ line') (b : at'' ≡ (number_from line' at').next) where
+        pub third_missing : (o : Option Change) → None ≡ number_told (number_from line'' at'') → o ≡ None
+            → ((number_from line'' at'').next ≡ (change_from line at).next) × (o ≡ change_told (change_from line at))
+        unfolding change_from
+        third_missing o e q = let f = rw (m, b, l, a) at e in rw (q, m, b, l, a, number_missing _ f) (refl, refl)
+
+        pub none_missing : (field index value : ℕ) → Some field ≡ number_told (number_from line at) → Some index ≡ number_told (number_from line' at')
+            → Some value ≡ number_told (number_from line'' at'')
+            → ((number_from line'' at'').next ≡ (change_from line at).next)
+            × (Some (record { field = field; index = index; value = value }) ≡ change_told (change_from line at))
+        unfolding change_from
+        none_missing field index value f g h =
+            let g' = rw (l, a) at g in
+            let h' = rw (m, b, l, a) at h in
+            let x = told_is (number_from line at) field f in
+            let y = told_is (number_after line (number_from line at)) index g' in
+            let z = told_is (number_after line (number_after line (number_from line at))) value h' in
+            rw (m, b, l, a) (refl, rw (x.1, y.1, z.1, z.0))
+
+-- A change that is told is within the line, and one that is not is the last.
+same_change : (w : ChangeAt) (change : Change) → Some change ≡ change_told w
+    → record { found = true; field = change.field; index = change.index; value = change.value; next = w.next } ≡ w
+same_change w change e =
+    let q = cond_some w.found (record { field = w.field; index = w.index; value = w.value }) change (sym e) in rw (← q.1, ← q.0)
+
+module _ (line : List ℕ) (at : ℕ) where
+  pub change_found : (change : Change) → Some change ≡ change_told (change_from line at)
+      → (at < length line)
+      × (record { found = true; field = change.field; index = change.index; value = change.value; next = (change_from line at).next } ≡ change_from line at)
+  change_found change e = (within (lt_or_le at (length line)), same_change (change_from line at) change e)
+    where
+      within : (at < length line) ⊎ (length line ≤ at) → at < length line
+      within (inl l) = l
+      within (inr l) =
+          let none = (first_missing line at None (ap number_told (sym (number_beyond line at l))) refl).1 in absurd (none-some change (none ∙ sym e))
+
+  pub change_lost : None ≡ change_told (change_from line at) → ((change_from line at).found ≡ false) × ((change_from line at).next ≡ length line)
+  unfolding change_from
+  change_lost e = (lost _ _ e, ap (λ (n : NumberAt). n.next) (number_missing line _ (none _ _ _ e)))
+    where
+      lost : (b : Bool) (change : Change) → None ≡ cond b (Some change) None → b ≡ false
+      lost true change e = absurd (none-some change e)
+      lost false change e = refl
+
+      none : (b : Bool) (change : Change) (x : ℕ) → None ≡ cond b (Some change) None → None ≡ cond b (Some x) None
+      none true change x e = absurd (none-some change e)
+      none false change x e = refl
+
+-- So less is left of the line behind a number or a change.
+module _ (line line' : List ℕ) (at at' : ℕ) (same : line' ≡ line) where
+  pub change_less : (change : Change) → Some change ≡ change_told (change_from line at) → at' ≡ (change_from line at).next
+      → length line' - at' < length line - at
+  change_less change e q = let l = (change_found line at change e).0 in rw (same, q) (omega (arith, l, change_after line at l))
+
+  pub number_less : (x : ℕ) → Some x ≡ number_told (number_from line at) → at' ≡ (number_from line at).next → length line' - at' < length line - at
+  number_less x e q = rw (same, q) (go (lt_or_le at (length line)))
+    where
+      go : (at < length line) ⊎ (length line ≤ at) → length line - (number_from line at).next < length line - at
+      go (inl l) = omega (arith, l, number_after_lem line at l)
+      go (inr l) = absurd (none-some x (sym (ap number_told (number_beyond line at l)) ∙ sym e))
+
+pub ruleset saying = (saying_start, saying_more, saying_small, saying_end)
+pub ruleset changing = (first_missing, second_missing, third_missing, none_missing)

@@ -1,4 +1,4 @@
--- The bytes that are lent to a writer, stored one after the other; and a line that is printed.
+-- The bytes that are lent to a writer, stored one after the other.
 use Prim.Native.Nat.{ℕ, zero, suc, ◌+◌, ◌-◌, ◌≤◌, ◌<◌}
 use mathlib.Core.Path.{◌≡◌, refl, ◌∙◌, ap}
 use mathlib.Core.List.{List, [], ◌∷◌, ◌++◌, append-nil}
@@ -7,9 +7,7 @@ use lib.Seq.{set_at, append_snoc}
 use native.Mathlib.Omega.{arith}
 use Rattle.lists.specs.Lists.{joined}
 use Rattle.lists.proofs.Laws.Items.{joined_more}
-use Rattle.slices.specs.Put.{put}
-use Rattle.printing.specs.Printed.{front}
-use Rattle.testlib_text.specs.Printed.{numbered_bytes, shown, line_shown}
+use Rattle.testlib_text.specs.Printed.{numbered_bytes}
 
 abbrev mark : ℕ → List ℕ
 mark i = (100 + i) ∷ []
@@ -41,7 +39,4 @@ pub marked_end : (i : ℕ) (out : List ℕ) → Marked i out → 64 ≤ i → ou
 unfolding numbered_bytes
 marked_end i out m l = let e : i ≡ 64 = omega (arith, m.upto) in (rw e at m.is) ∙ append-nil (joined mark 64 0)
 
--- A line by what the put and the print answered.
-pub line_shown_lem : (s : ℕ × List ℕ) (n r : ℕ) (out : List ℕ) → (n, out) ≡ put s (10 ∷ []) → r ≡ front n (length out) → (r, out) ≡ line_shown s
-unfolding line_shown
-line_shown_lem s n r out e q = ap (λ (k : ℕ). (k, out)) q ∙ ap (λ (t : ℕ × List ℕ). shown t) e
+pub ruleset marking = (marked_start, marked_more, marked_end)

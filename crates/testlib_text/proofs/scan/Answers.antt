@@ -1,24 +1,18 @@
-use mathlib.Core.Path.{refl, sym, ◌∙◌}
-use Rattle.lists.proofs.Laws.Search.{first_hit, first_miss, first_end}
-use Rattle.testlib_text.specs.Lines.{scanned}
+use mathlib.Core.Path.{refl}
+use native.Mathlib.Omega.{arith}
+use Rattle.text.specs.Decimal.{is_digit}
+use Rattle.testlib_text.proofs.Laws.Lines.{scan_hit, scan_miss, scan_none}
 use Rattle.testlib_text.proofs.scan.Goals as goal
 
-pub loop-at-init : goal.loop-at-init
-loop-at-init c = refl
-
-pub returns-then-sought : goal.returns-then-sought
-unfolding scanned
-returns-then-sought c =
-    sym
-    (c.loop-at.invariant
-    ∙ first_hit _ _ _ c.loop-at-test.true (sym c.sought.ensures ∙ c.if-sought.true))
+pub returns-then-is_ascii_digit-digit : goal.returns-then-is_ascii_digit-digit
+unfolding is_digit
+returns-then-is_ascii_digit-digit c =
+    scan_hit _ _ _ _ c.loop-at.invariant c.loop-at-test.true _ c.is_ascii_digit.ensures.value c.if-is_ascii_digit-digit.true
 
 pub loop-at-preserved : goal.loop-at-preserved
-unfolding scanned
+unfolding is_digit
 loop-at-preserved c =
-    c.loop-at.invariant
-    ∙ first_miss _ _ _ c.loop-at-test.true (sym c.sought.ensures ∙ c.if-sought.false)
+    scan_miss _ _ _ _ c.loop-at.invariant c.loop-at-test.true _ c.is_ascii_digit.ensures.value c.if-is_ascii_digit-digit.false
 
 pub returns : goal.returns
-unfolding scanned
-returns c = sym (c.loop-at.invariant ∙ first_end _ _ _ c.loop-at-test.false)
+returns c = scan_none _ _ _ _ c.loop-at.invariant (omega arith)

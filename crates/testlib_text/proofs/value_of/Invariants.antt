@@ -1,11 +1,6 @@
--- Right because the digits from the index on say the rest of the first ten; what is left of them falls.
-use Prim.Native.Nat.{◌-◌}
-use lib.ListN.{length}
+-- Right because the digits from the index on say the rest of the first ten.
 use Rattle.testlib_text.proofs.Laws.Lines.{Saying}
 use Rattle.testlib_text.proofs.value_of.Given as goal
 
-abbrev pub invariant-loop-i : goal.invariant-loop-i
-invariant-loop-i l = Saying l.digits l.i l.value
-
-abbrev pub decreases-loop-i : goal.decreases-loop-i
-decreases-loop-i l = length l.digits - l.i
+abbrev pub invariant-loop-digit : goal.invariant-loop-digit
+invariant-loop-digit l = Saying l.few l.digit-index l.value
