@@ -6,7 +6,7 @@ use mathlib.Core.List.{List, []}
 use lib.ListN.{length, get_or, set, take}
 use lib.Seq.{set_out}
 use native.Mathlib.Omega.{arith}
-use native.Mathlib.Nat.{mod-eq_of_lt, sub-zero}
+use native.Mathlib.Nat.{mod-eq_of_lt}
 use Rattle.site.specs.declared.Site.{Site}
 use Rattle.testlib_changes.specs.Changed.{fields_of}
 use Rattle.std.specs.Prelude.{Some, None}
@@ -82,9 +82,9 @@ module _ (line : List ℕ) (whole : Site) (at : ℕ) (s : Site) (w : Altering li
 
 -- The plan of a line, as much of it as was stored.
 pub given_site : (line out new : List ℕ) (n : ℕ) (r : Ruling) (s : Site) → (n, new) ≡ filled (hex_bytes line) out → length out ≡ 2048
-    → (r, s) ≡ with_site (read_of (take (n - 0) new)) → s ≡ site_given line
+    → (r, s) ≡ with_site (read_of (take n new)) → s ≡ site_given line
 unfolding site_given
 given_site line out new n r s e long q =
     let front : take n new ≡ take 2048 (hex_bytes line) =
     ap (λ (w : ℕ × List ℕ). take w.0 w.1) e ∙ filled_front (hex_bytes line) out ∙ ap (λ (k : ℕ). take k (hex_bytes line)) long in
-    ap (λ (w : Ruling × Site). w.1) q ∙ rw (sub-zero n, front)
+    ap (λ (w : Ruling × Site). w.1) q ∙ rw front

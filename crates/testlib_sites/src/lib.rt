@@ -76,7 +76,6 @@ pub fn altered(site: Site, mut numbers: Numbers) -> Site
 }
 
 // The site that the plan of the line reads to.
-#[tactic(auto, using(crate::proofs::Laws::given_site, testlib_text::proofs::Laws::Hex::filled_within))]
 pub fn read_site(line: &[u8]) -> Site
     ensures { result ≡ site_given line.now }
 {
