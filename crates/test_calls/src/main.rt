@@ -115,11 +115,11 @@ fn start(page: &mut Page, line: &[u8], live: &mut Live) {
     run(page, verdict, &before, &live.counters);
 }
 
-// The arrivals that the pairs of numbers give; a pair that is not complete, or has no place, is passed over.
+// The arrivals that the pairs of numbers give; a pair that is not complete, or has no place, is passed over. A line has no more numbers than bytes.
 fn arrivals_of(mut numbers: Numbers) -> [u16; 65] {
     let mut arrivals = [0; 65];
-    while let Some(flow) = numbers.next() {
-        if let Some(count) = numbers.next() {
+    for _ in 0..numbers.line.len() {
+        if let (Some(flow), Some(count)) = (numbers.next(), numbers.next()) {
             if flow < 65 {
                 arrivals[flow] = testlib_text::low16(count);
             }
@@ -139,7 +139,12 @@ fn slot(page: &mut Page, line: &[u8], live: &mut Live) {
     }
     let arrivals = arrivals_of(numbers);
     let before = live.counters;
-    let verdict = simulation::slot(live.site, &mut live.counters[..lent], &arrivals[..given], number);
+    let verdict = simulation::slot(
+        live.site,
+        &mut live.counters[..lent],
+        &arrivals[..given],
+        number,
+    );
     run(page, verdict, &before, &live.counters);
 }
 

@@ -60,7 +60,12 @@ fn show_case(page: &mut Page, line: &[u8]) {
     let mut periods = numbered(700);
     let n = take_gaps(&mut numbers, &mut gaps);
     if offsets_length <= 66 && periods_length <= 66 {
-        put_assign(page, &gaps[..n], &mut offsets[..offsets_length], &mut periods[..periods_length]);
+        put_assign(
+            page,
+            &gaps[..n],
+            &mut offsets[..offsets_length],
+            &mut periods[..periods_length],
+        );
         testlib_text::print_line(page);
     }
 }

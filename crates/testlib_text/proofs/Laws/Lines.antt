@@ -303,4 +303,5 @@ module _ (line line' : List ℕ) (at at' : ℕ) (same : line' ≡ line) where
       go (inr l) = absurd (none-some x (sym (ap number_told (number_beyond line at l)) ∙ sym e))
 
 pub ruleset saying = (saying_start, saying_more, saying_small, saying_end)
+
 pub ruleset changing = (first_missing, second_missing, third_missing, none_missing)
