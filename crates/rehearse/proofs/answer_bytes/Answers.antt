@@ -1,45 +1,23 @@
 use borrow.Author.Rules.{rules}
-use Prim.Native.Nat.{◌+◌, ◌≤◌}
-use mathlib.Core.Path.{◌≡◌, refl}
-use lib.ListN.{length, take}
-use lib.Seq.{take_all}
+use Prim.Native.Nat.{◌≤◌}
+use mathlib.Core.Path.{refl}
+use lib.ListN.{length}
 use native.Mathlib.Omega.{arith}
-use mir.Syntax.{w64}
-use mir.Val.{Fits}
-use Rattle.rehearsal.proofs.Laws.Runs.{goes_none, part_taken, goes_part}
+use Rattle.rehearsal.proofs.Laws.Runs.{typed_none, typed_more, typed_fewer}
 use Rattle.rehearse.proofs.answer_bytes.Goals as goal
 
-pub loop-from-init : goal.loop-from-init
-loop-from-init c = (omega arith, refl, refl, search rules, goes_none _ _ _)
+pub loop-rest-init : goal.loop-rest-init
+loop-rest-init c = record { goes = typed_none _ _ _ _; space_long = refl; counters_long = refl; out_long = refl }
 
-pub overflow_add-from : goal.overflow_add-from
-overflow_add-from c =
-    let few : Fits w64 (length c.args.bytes.now) = search rules in
-    let on : (1 ≤ c.take_up-next.result.taken) × (c.loop-from.from + c.take_up-next.result.taken ≤ length c.args.bytes.now) = let room : 8192 ≤ length c.loop-from.out = omega (arith, c.loop-from.invariant.3) in
-    part_taken _ _ _ _ _ _ c.args.bytes.now _ c.loop-from.from _ _ c.loop-from-test.true room c.take_up-next.ensures in
-    omega (arith, few, on)
+pub loop-rest-smaller : goal.loop-rest-smaller
+loop-rest-smaller c =
+    let some : 1 ≤ length c.loop-rest.rest.now = search rules in
+    typed_fewer _ _ _ _ _ _ _ _ c.loop-rest.invariant.goes _ _ _ _ _ _ some (omega (arith, c.loop-rest.invariant.out_long)) c.take_up-next.ensures
 
-pub loop-from-smaller : goal.loop-from-smaller
-loop-from-smaller c =
-    let on : (1 ≤ c.take_up-next.result.taken) × (c.loop-from.from + c.take_up-next.result.taken ≤ length c.args.bytes.now) = let room : 8192 ≤ length c.loop-from.out = omega (arith, c.loop-from.invariant.3) in
-    part_taken _ _ _ _ _ _ c.args.bytes.now _ c.loop-from.from _ _ c.loop-from-test.true room c.take_up-next.ensures in
-    omega (arith, c.loop-from-test.true, on)
-
-pub loop-from-preserved : goal.loop-from-preserved
-loop-from-preserved c =
-    let on : (1 ≤ c.take_up-next.result.taken) × (c.loop-from.from + c.take_up-next.result.taken ≤ length c.args.bytes.now) = let room : 8192 ≤ length c.loop-from.out = omega (arith, c.loop-from.invariant.3) in
-    part_taken _ _ _ _ _ _ c.args.bytes.now _ c.loop-from.from _ _ c.loop-from-test.true room c.take_up-next.ensures in
-    let inv = c.loop-from.invariant in (
-      on.1,
-      search rules,
-      search rules,
-      search rules,
-      goes_part _ _ _ _ _ _ _ _ _ c.args.bytes.now _ c.loop-from.from _ _ inv.0 inv.4 inv.1 c.take_up-next.ensures,
-    )
-
-pub returns : goal.returns
-returns c =
-    let inv = c.loop-from.invariant in
-    let all : take c.loop-from.from c.args.bytes.now ≡ c.args.bytes.now
-    = take_all _ _ c.loop-from-test.false in
-    rw all at inv.4
+pub loop-rest-preserved : goal.loop-rest-preserved
+loop-rest-preserved c = record {
+  goes = typed_more _ _ _ _ _ _ _ _ c.loop-rest.invariant.goes _ _ _ _ _ _ c.loop-rest.invariant.space_long c.take_up-next.ensures;
+  space_long = search rules;
+  counters_long = search rules;
+  out_long = search rules;
+}
