@@ -10,7 +10,7 @@ ghost use Rattle.plan_reader.specs.Read.{read_of};
 ghost use Rattle.lists.specs.Lists.{joined};
 ghost use Rattle.site.specs.Sites.{used};
 
-use report_lines::{deliver_lines, put_refusal_line};
+use report_lines::{deliver, put_refusal_line};
 use rulings::Refusal;
 use site::Site;
 use text::Page;
@@ -27,11 +27,14 @@ fn put_listing(page: &mut Page, bytes: &[u8])
 }
 
 // No text is longer than 8,192 bytes: the law `listing_short`.
-#[tactic(auto, using(crate::proofs::Laws::Short::listing_short), unfolding(crate::specs::Listing::listing_of))]
+#[tactic(auto, using(text::proofs::Laws::Put::shown_puts, crate::proofs::Laws::Short::listing_short), unfolding(crate::specs::Listing::listing_of))]
 pub fn list_plan(bytes: &[u8], out: &mut [u8]) -> Result<usize, Refusal>
     ensures { (outcome result, out.new) ≡ written (listing_of bytes.now) out.old }
 {
-    deliver_lines(|page| put_listing(page, bytes), out)
+    let mut lines = [0u8; 8192];
+    let mut page = Page::over(&mut lines);
+    put_listing(&mut page, bytes);
+    deliver(page.text(), out)
 }
 
 #[tactic(auto, unfolding(text::specs::Put::puts, crate::specs::Listing::node_typed))]

@@ -1,10 +1,7 @@
 // What printed texts have in common: refusals, verdicts and a link's slots, and a text handed to the slice of the caller.
 #![tactic(auto, unfolding(text::specs::Put::puts))]
 
-ghost use Rattle.std.specs.Prelude.{◌≡◌, ◌≤◌, ℕ, List, length};
-ghost use Rattle.std.specs.Fn.{FnOnceReturnsAtMut};
-ghost use Rattle.text.specs.declared.Page.{Page};
-ghost use Rattle.text.specs.Put.{text_of};
+ghost use Rattle.std.specs.Prelude.{◌≡◌};
 ghost use Rattle.text.specs.Page.{Adds};
 ghost use Rattle.rulings.specs.Outcome.{outcome, number_of};
 ghost use Rattle.report_lines.specs.Lines.{refusal as refusal·, refusal_line, verdict_text, slots_text};
@@ -53,19 +50,6 @@ pub fn deliver(text: &[u8], out: &mut [u8]) -> Result<usize, Refusal>
     }
     out[..size].copy_from_slice(text);
     Ok(size)
-}
-
-// Lines put on a page of 8,192 bytes, and handed to the slice of the caller.
-pub fn deliver_lines<F: FnOnce(&mut Page)>(put: F, out: &mut [u8]) -> Result<usize, Refusal>
-    requires { F.IsAlwaysCallable put }
-    ensures { (lines : List (List ℕ)) → length (text_of lines) ≤ 8192
-        → ((old new : Page) → FnOnceReturnsAtMut F.FnOnce put old tt new → Adds old new lines)
-        → (outcome result, out.new) ≡ written (text_of lines) out.old }
-{
-    let mut space = [0u8; 8192];
-    let mut page = Page::over(&mut space);
-    put(&mut page);
-    deliver(page.text(), out)
 }
 
 pub fn put_slots(page: &mut Page, offset: u16, period: u16)

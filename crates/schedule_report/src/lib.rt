@@ -12,7 +12,7 @@ ghost use Rattle.schedule_reader.specs.Read.{schedule_read};
 ghost use Rattle.lists.specs.Lists.{joined};
 ghost use Rattle.site.specs.Sites.{used};
 
-use report_lines::{deliver_lines, put_refusal_line, put_slots};
+use report_lines::{deliver, put_refusal_line, put_slots};
 use rulings::Refusal;
 use schedule_check::Schedule;
 use text::Page;
@@ -29,11 +29,14 @@ fn put_report(page: &mut Page, bytes: &[u8])
 }
 
 // No text is longer than 8,192 bytes: the law `schedule_report_short`.
-#[tactic(auto, using(crate::proofs::Laws::Short::schedule_report_short), unfolding(crate::specs::Report::schedule_report_of))]
+#[tactic(auto, using(text::proofs::Laws::Put::shown_puts, crate::proofs::Laws::Short::schedule_report_short), unfolding(crate::specs::Report::schedule_report_of))]
 pub fn report_schedule(bytes: &[u8], out: &mut [u8]) -> Result<usize, Refusal>
     ensures { (outcome result, out.new) ≡ written (schedule_report_of bytes.now) out.old }
 {
-    deliver_lines(|page| put_report(page, bytes), out)
+    let mut lines = [0u8; 8192];
+    let mut page = Page::over(&mut lines);
+    put_report(&mut page, bytes);
+    deliver(page.text(), out)
 }
 
 #[tactic(auto, unfolding(text::specs::Put::puts, crate::specs::Report::slots_line))]

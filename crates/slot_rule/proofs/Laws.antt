@@ -5,7 +5,6 @@ pub mod Counting
 pub mod Offsets
 pub mod Room
 pub mod Checks
-pub mod Rows
 use Prim.Native.Nat.{ℕ, ◌*◌, ◌^◌, ◌/◌, ◌%◌, ◌≤◌, ◌<◌}
 use mathlib.Core.Path.{◌≡◌, refl, sym, ◌∙◌, ap}
 use mathlib.Core.Bool.{Bool, true, false, not, false≢true}

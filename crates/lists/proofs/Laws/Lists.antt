@@ -1,5 +1,5 @@
 -- Loops over a list, for lists of any width: a list filled entry by entry, a sum, and the smallest and largest number.
-use Prim.Native.Nat.{ℕ, zero, suc, ◌+◌, ◌*◌, ◌≤◌, ◌<◌, min, max}
+use Prim.Native.Nat.{ℕ, zero, suc, ◌+◌, ◌*◌, ◌≤◌, ◌<◌}
 use mathlib.Core.Path.{◌≡◌, refl, sym, ◌∙◌, ap}
 use mathlib.Core.List.{List, [], ◌∷◌, map}
 use lib.ListN.{length, get_or, set, drop, replicate, length-set, length-map, drop_of_length-le}
@@ -8,7 +8,7 @@ use borrow.Author.Count.{below_more}
 use native.Mathlib.Nat.{mul-suc}
 use native.Mathlib.Numerals.{add-one}
 use native.Mathlib.Omega.{arith}
-use Rattle.lists.specs.Lists.{total, largest, least, smallest}
+use Rattle.lists.specs.Lists.{total}
 
 -- No period is 0.
 abbrev pub Positive : List ℕ → Type 0
@@ -67,31 +67,3 @@ module _ (h : ℕ → ℕ) (most : ℕ) (xs : List ℕ) where
   pub summed_end : (i sum : ℕ) → Summed h most xs i sum → length xs ≤ i → sum ≡ total (map h xs)
   unfolding total
   summed_end i sum s l = let e = rw (drop_of_length-le xs l) at s.rest in omega arith
-
--- The smallest and the largest number of a list, of which the first i entries are in.
-pub record Spanned (xs : List ℕ) (i low high : ℕ) : Type 0 where
-  pub upto : i ≤ length xs
-  pub lower : least low (drop i xs) ≡ smallest xs
-  pub upper : max high (largest (drop i xs)) ≡ largest xs
-
-pub spanned_start : (xs : List ℕ) → 1 ≤ length xs → Spanned xs 1 (get_or xs 0 0) (get_or xs 0 0)
-unfolding smallest largest
-spanned_start [] l = absurd (omega arith)
-spanned_start (x ∷ xs) l = record { upto = l; lower = refl; upper = refl }
-
-module _ (xs : List ℕ) (i low high : ℕ) (s : Spanned xs i low high) where
-  pub spanned_more : (low' high' : ℕ) → i < length xs → low' ≡ min low (get_or xs i 0) → high' ≡ max high (get_or xs i 0)
-      → Spanned xs (i + 1) low' high'
-  unfolding least largest
-  spanned_more low' high' l p q =
-      record { upto = omega arith; lower = rw (p, add-one) (rw rest at s.lower); upper = rw (q, add-one) (omega (arith, rw rest at s.upper)) }
-    where
-      rest : drop i xs ≡ get_or xs i 0 ∷ drop (suc i) xs
-      rest = drop-cons xs i 0 l
-
-  pub spanned_end : length xs ≤ i → (low ≡ smallest xs) × (high ≡ largest xs)
-  unfolding least largest
-  spanned_end l =
-      let none = drop_of_length-le xs l in
-      let upper = rw none at s.upper in
-      (rw none at s.lower, omega arith)

@@ -5,7 +5,7 @@ use mathlib.Core.Bool.{Bool, true, false, not}
 use mathlib.Core.List.{List, [], ◌∷◌, ◌++◌}
 use lib.ListN.{length, set, length-append}
 use lib.Seq.{sets, length-sets, sets-eq}
-use borrow.Author.Tests.{lt-ltb, le-ltb, lt-leb, le-leb, not-true, not-false}
+use borrow.Author.Tests.{lt-ltb, le-ltb, le-leb, not-false}
 use native.Mathlib.Nat.{zero-add, mul-suc}
 use native.Mathlib.Omega.{arith}
 use Rattle.rulings.specs.Outcome.{Outcome, accepted, refused}
@@ -90,22 +90,8 @@ module _ (bytes out : List ℕ) (n : ℕ) (size : n ≡ length bytes) where
   written_all new l q =
       rw (q, size, le-ltb (length out) (length bytes) (omega arith), sets-eq bytes out 0 (omega arith), zero-add (length bytes))
 
--- The answers where check 14 was asked before.
-module _ (links : ℕ) (bytes out : List ℕ) where
-  pub encoded_many : 63 < links → (refused 14 0, out) ≡ encoded links bytes out
-  unfolding encoded handed
-  encoded_many l = rw (lt-leb _ _ l)
-
-  pub encoded_few : links ≤ 63 → (a : Outcome ℕ × List ℕ) → a ≡ written bytes out → a ≡ encoded links bytes out
-  unfolding encoded handed
-  encoded_few l a q = q ∙ rw (le-leb _ _ l)
-
 -- The answers with it. p is the check, and t what it came to.
 module _ (p t : Bool) (is : t ≡ p) (bytes out : List ℕ) where
-  pub handed_ill : not t ≡ true → (refused 14 0, out) ≡ handed p bytes out
-  unfolding handed
-  handed_ill e = rw (← is, not-true t e)
-
   pub handed_passed : not t ≡ false → (a : Outcome ℕ × List ℕ) → a ≡ written bytes out → a ≡ handed p bytes out
   unfolding handed
   handed_passed e a q = q ∙ rw (← is, not-false t e)

@@ -5,7 +5,6 @@ use mathlib.Core.Bool.{true, false, false≢true}
 use mathlib.Core.List.{List, [], ◌∷◌, map, map-map}
 use mathlib.Core.Logic.{◌⊎◌, inl, inr, ◌↔◌}
 use lib.ListN.{length, get_or}
-use borrow.Author.Tests.{le-leb, lt-leb}
 use native.Mathlib.Nat.{pow-zero, pow-suc, mul-one, one-mul, mul-le-mul_left, div-eq_of_eq-mul_left, mul-div-mul_left, div-lt_iff_lt-mul, min-le_left, min-le_right}
 use native.Mathlib.Nat.{min-eq_left, min-eq_right, le-max_left, le-max_right, max-eq_left, max-eq_right}
 use native.Mathlib.Omega.{arith}
@@ -168,15 +167,6 @@ module _ (f : ℕ) (two : 2 ≤ f) where
   -- Where no base above the smallest gap / factor fits, none fits: each other one gives the periods of a larger one.
   pub none_below : (gaps : List ℕ) → ((b : ℕ) → smallest gaps / f < b → b ≤ smallest gaps → fits f b gaps ≡ false) → base f gaps ≡ 0
   none_below gaps none = unfit gaps (λ l. none (base f gaps) ((div-lt_iff_lt-mul (omega arith)).1 (base_top gaps l)) (base_fits gaps l).1)
-
-  -- The test on the two figures.
-  pub fits_yes : (b : ℕ) (gaps : List ℕ) (n top : ℕ) → n ≡ sum f b gaps → top ≡ limit f b gaps → n ≤ top → fits f b gaps ≡ true
-  unfolding fits
-  fits_yes b gaps n top e q h = le-leb _ _ (rw (e, q) at h)
-
-  pub fits_no : (b : ℕ) (gaps : List ℕ) (n top : ℕ) → n ≡ sum f b gaps → top ≡ limit f b gaps → top < n → fits f b gaps ≡ false
-  unfolding fits
-  fits_no b gaps n top e q h = lt-leb _ _ (rw (e, q) at h)
 
   -- The search: where it starts, a base that does not fit, one that does, and where it may end.
   pub tried_start : (gaps : List ℕ) (b : ℕ) → b ≡ smallest gaps → Tried f gaps b

@@ -134,7 +134,3 @@ module _ (h : ℕ → ℕ) (f b g : ℕ) where
         let above : g < p * f = (div-lt_iff_lt-mul pos).0 l in
         let is = exponent_is f two b g w.exponent one (rw w.power at w.within) (rw (pow-suc, ← mul_assoc, ← w.power) above) in
         (w.power ∙ rw is, w.beside ∙ rw is)
-
--- The power itself is at most the number.
-pub grown_power : (f b g p x : ℕ) → 1 ≤ b → Grown (λ e. f ^ e) f b g p x → x ≤ p
-grown_power f b g p x one w = omega (arith, w.power, w.beside, mul-le-mul_right (f ^ w.exponent) one)
