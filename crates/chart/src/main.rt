@@ -8,7 +8,6 @@ mod refusals;
 
 use page::{print_head, print_tail};
 use site::Site;
-use std::env::{Env, FillError};
 
 // A plan without links has neither slots nor flows to show.
 fn print_wired() {
@@ -45,14 +44,9 @@ fn print_plan(bytes: &[u8]) {
     }
 }
 
-// Whether the command line has a word at this place; the first is the name of the program.
-fn has_word(rt: &impl Env, at: usize) -> bool {
-    !matches!(rt.arg(at, &mut [0u8; 1]), Err(FillError::NotPresent))
-}
-
 // No input can pass more than 63 NODEs, 64 FLOWs and END, so its first 1,024 bytes settle every answer: this is the law `read_first` of crate `format`.
 fn main(rt: HostRuntime) {
-    if !has_word(&rt, 0) || has_word(&rt, 1) {
+    if !arguments::stands_alone(&rt) {
         io::write_all(2, b"usage: chart < PLAN > PICTURE.svg\n");
         return;
     }
