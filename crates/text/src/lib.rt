@@ -2,7 +2,6 @@
 #![tactic(auto, unfolding(crate::specs::Put::puts))]
 
 ghost use Rattle.std.specs.Prelude.{◌≡◌, [], ◌∷◌};
-ghost use Rattle.text.specs.Put.{puts};
 ghost use Rattle.text.specs.Page.{Adds, held, shown};
 ghost use Rattle.text.specs.Decimal.{decimal};
 ghost use Rattle.text.specs.Listed.{each, spaced_decimal};
@@ -69,12 +68,4 @@ impl<'a> Page<'a> {
             self.put_field(b" ", u64::from(*number));
         }
     }
-}
-
-pub fn put_field(out: &mut [u8], at: usize, name: &[u8], value: u64) -> usize
-    ensures { (result, out.new) ≡ puts (at, out.old) (name.now ∷ decimal value ∷ []) }
-{
-    let mut page = Page::behind(out, at);
-    page.put_field(name, value);
-    page.taken
 }

@@ -1,5 +1,6 @@
 // All lines of a typed plan.
 ghost use Rattle.std.specs.Prelude.{◌≡◌, ◌≤◌, length, Ok};
+ghost use Rattle.text.specs.Page.{Adds};
 ghost use Rattle.text.specs.Put.{puts, text_of};
 ghost use Rattle.line_words.specs.Parts.{lines_of};
 ghost use Rattle.typed_line.specs.Lines.{command_said, typed, typed_line};
@@ -8,7 +9,7 @@ ghost use Rattle.typed_plan.specs.Assemble.{Length, piece_of, pieces_of, plan_ty
 use crate::AssembleError;
 use format::END;
 use plan_writer::{flow_command, node_command};
-use slices::put;
+use text::Page;
 use typed_line::{Command, read_line};
 
 // 01: NODE and FLOW take six bytes each.
@@ -43,8 +44,8 @@ pub(crate) fn check(text: &[u8]) -> Result<usize, AssembleError>
 }
 
 #[tactic(auto, unfolding(crate::specs::Assemble::piece_of, text::specs::Put::puts))]
-fn put_command(out: &mut [u8], at: usize, command: Command) -> usize
-    ensures { (result, out.new) ≡ puts (at, out.old) (piece_of (command_said command)) }
+fn put_command(page: &mut Page, command: Command)
+    ensures { Adds page.old page.new (piece_of (command_said command)) }
 {
     let bytes = match command {
         Command::Node {
@@ -59,27 +60,34 @@ fn put_command(out: &mut [u8], at: usize, command: Command) -> usize
             deadline,
         } => flow_command(number, entry, rate, deadline),
     };
-    put(out, at, &bytes)
+    page.put(&bytes);
 }
 
 #[tactic(auto, unfolding(crate::specs::Assemble::piece_of, text::specs::Put::puts))]
-fn put_line(out: &mut [u8], at: usize, line: &[u8]) -> usize
-    ensures { (result, out.new) ≡ puts (at, out.old) (piece_of (typed_line line.now)) }
+fn put_line(page: &mut Page, line: &[u8])
+    ensures { Adds page.old page.new (piece_of (typed_line line.now)) }
 {
     match read_line(line) {
-        Ok(Some(command)) => put_command(out, at, command),
-        Ok(None) => at,
-        Err(_) => at,
+        Ok(Some(command)) => put_command(page, command),
+        Ok(None) => {}
+        Err(_) => {}
     }
 }
 
 // Behind the commands stands END.
+fn put_commands(page: &mut Page, text: &[u8])
+    ensures { Adds page.old page.new (pieces_of (lines_of text.now)) }
+{
+    for line in text.split(|byte| *byte == b'\n') {
+        put_line(page, line);
+    }
+    page.put(&[END]);
+}
+
 pub(crate) fn put_plan(text: &[u8], out: &mut [u8]) -> usize
     ensures { (result, out.new) ≡ puts (0, out.old) (pieces_of (lines_of text.now)) }
 {
-    let mut taken = 0;
-    for line in text.split(|byte| *byte == b'\n') {
-        taken = put_line(out, taken, line);
-    }
-    put(out, taken, &[END])
+    let mut page = Page::over(out);
+    put_commands(&mut page, text);
+    page.taken
 }

@@ -13,9 +13,8 @@ use borrow.Author.Tests.{lt-ltb, le-ltb}
 use native.Mathlib.Nat.{zero-add}
 use native.Mathlib.Omega.{arith}
 use Rattle.format.specs.Bytes.{bytes_of}
-use Rattle.slices.specs.Put.{put}
 use Rattle.text.specs.Put.{puts, text_of}
-use Rattle.text.proofs.Laws.Put.{puts_one, puts_then, puts_whole, text_append}
+use Rattle.text.proofs.Laws.Put.{puts_then, puts_whole, text_append}
 use Rattle.line_words.specs.Parts.{onto, parts, is, lines_of}
 use Rattle.typed_line.specs.declared.Command.{Command}
 use Rattle.typed_line.specs.declared.Command.TheVariants.{Node as node, Flow as flow}
@@ -90,10 +89,10 @@ module _ (text : List ℕ) (s : ℕ × List ℕ) where
           ∙ sym (ap (λ (ls : List (List ℕ)). puts t (pieces_of ls)) (line_left text n line h)) ∙ p.rest;
     }
 
-    pub putting_end : n ≡ length (parts_of text) → (v : ℕ × List ℕ) (code : ℕ) → v ≡ put t (code ∷ []) → code ≡ 255 → v ≡ puts s (pieces_of (lines_of text))
+    pub putting_end : n ≡ length (parts_of text) → (v : ℕ × List ℕ) (code : ℕ) → v ≡ puts t ((code ∷ []) ∷ []) → code ≡ 255 → v ≡ puts s (pieces_of (lines_of text))
     unfolding pieces_of
     putting_end l v code f q =
-        puts_one t v (255 ∷ []) (f ∙ rw q) ∙ sym (ap (λ (ls : List (List ℕ)). puts t (pieces_of ls)) (lines_left text n l)) ∙ p.rest
+        (rw q at f) ∙ sym (ap (λ (ls : List (List ℕ)). puts t (pieces_of ls)) (lines_left text n l)) ∙ p.rest
 
 -- None of the first n lines is wrong, and their commands and END take `size` bytes.
 pub record Checking (text : List ℕ) (n size : ℕ) : Type 0 where
