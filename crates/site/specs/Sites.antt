@@ -19,21 +19,6 @@ empty_site = record {
   deadlines = replicate 64 0;
 }
 
--- The site with these lists. Functions that are lent some of a site's lists promise what they do for every site that has them.
-abbrev pub of_lists : ℕ → List ℕ → List ℕ → List ℕ → List ℕ → List ℕ → List ℕ → List ℕ → List ℕ → List ℕ → Site
-of_lists links parents capacities gaps offsets periods states entries rates deadlines = record {
-  links = links;
-  parents = parents;
-  capacities = capacities;
-  gaps = gaps;
-  offsets = offsets;
-  periods = periods;
-  states = states;
-  entries = entries;
-  rates = rates;
-  deadlines = deadlines;
-}
-
 -- How many links a site has: 63 at most, whatever its count says.
 unfoldable pub used : ℕ → ℕ
 used links = min links 63
@@ -60,10 +45,6 @@ with_flows s states entries rates deadlines = record {
   rates = rates;
   deadlines = deadlines;
 }
-
--- The site with other states.
-abbrev pub with_states : Site → List ℕ → Site
-with_states s states = with_flows s states s.entries s.rates s.deadlines
 
 -- The site with these fields at one flow number.
 abbrev pub with_fields : Site → ℕ → ℕ → ℕ → ℕ → ℕ → Site

@@ -1,5 +1,4 @@
 -- Faults have numbers.
-use Prim.Native.Nat.{ℕ}
 use mathlib.Core.Path.{◌≡◌}
 use native.Mathlib.Omega.{arith}
 use Rattle.rulings.specs.declared.Fault.{Fault}

@@ -6,7 +6,7 @@ use mathlib.Core.Logic.{inl, inr, ⊎_elim, ◌↔◌}
 use lib.Dec.{eqb}
 use borrow.Author.Tests.{eq-eqb, ne_eqb, eqb-true}
 use native.Mathlib.Omega.{arith}
-use Rattle.rulings.specs.Outcome.{Outcome, Ruling, accepted, refused, checked, settled, or_else, Checks, none, check, Ruled}
+use Rattle.rulings.specs.Outcome.{Outcome, accepted, refused, checked, settled, Checks, none, check, Ruled}
 
 module _ {A : Type 0} where
   -- What is refused is not accepted.
@@ -73,16 +73,3 @@ module _ {A : Type 0} where
     pub ruled_end : (a : A) → gives a → ((b : A) → gives b → b ≡ a) → (accepted a ≡ o) ↔ Ruled gives none o
     unfolding Ruled
     ruled_end a g u = (λ e. (a, sym e, g), λ w. sym (w.1 ∙ ap accepted (u w.0 w.2)))
-
--- What a ruling and the value beside it come from.
-pub else_accepted : {A : Type 0} (other : A) (o : Outcome A) (a : A) → (accepted tt, a) ≡ or_else other o → o ≡ accepted a
-unfolding or_else
-else_accepted {A = A} other (accepted b) a e = ap accepted (ap (λ (r : Ruling × A). r.1) (sym e))
-else_accepted {A = A} other (refused number place) a e = absurd (refused_not _ refl (ap (λ (r : Ruling × A). r.0) (sym e)))
-
-pub else_refused : {A : Type 0} (other : A) (o : Outcome A) (a : A) (number place : ℕ) → (refused number place, a) ≡ or_else other o → o ≡ refused number place
-unfolding or_else
-else_refused {A = A} other (accepted b) a number place e = absurd (refused_not _ refl (ap (λ (r : Ruling × A). r.0) e))
-else_refused {A = A} other (refused m q) a number place e =
-    let f : ◌≡◌ {A = Ruling} (refused number place) (refused m q) = ap (λ (r : Ruling × A). r.0) e in
-    let n : m ≡ number = cc in let p : q ≡ place = cc in rw (n, p)
