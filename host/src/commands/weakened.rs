@@ -122,15 +122,21 @@ fn trials(top: &Path, crates: &[&str]) -> Result<Vec<Trial>, String> {
     Ok(trials)
 }
 
-/// The function promises nothing, and no answer says why it returns what it promises.
+/// A function's name without the type that a method stands behind.
+fn name_of(function: &str) -> &str {
+    function.rsplit('/').next().unwrap_or(function)
+}
+
+/// The function promises nothing, and no answer says why it returns what it promises. A method is named behind its type, as its proofs stand: `Site/is_live`.
 fn weaken(top: &Path, owner: &str, function: &str) -> Result<(), String> {
+    let name = name_of(function);
     let folder = top.join("crates").join(owner);
     let code = folder.join("src");
     let files = fs::read_dir(&code).map_err(in_words(&code))?;
     let mut is_found = false;
     for file in files {
         let path = file.map_err(in_words(&code))?.path();
-        if let Some(text) = weaken_promise(&read_text(&path)?, function) {
+        if let Some(text) = weaken_promise(&read_text(&path)?, name) {
             write(&path, &text)?;
             is_found = true;
         }
@@ -213,13 +219,14 @@ impl Trial {
         })
     }
 
-    /// By its path, or by its name that is imported.
+    /// By its path, by its name that is imported, or as a method.
     fn is_called_in(&self, code: &str) -> bool {
         let function = self.function();
-        ["(", ";"]
-            .map(|end| format!("{function}{end}"))
-            .iter()
-            .any(|call| code.contains(call))
+        let mut calls = vec![format!("{function}("), format!("{function};")];
+        if self.law.function.contains('/') {
+            calls.push(format!(".{}(", name_of(&self.law.function)));
+        }
+        calls.iter().any(|call| code.contains(call))
     }
 
     /// The first crate that calls the function and is refused.

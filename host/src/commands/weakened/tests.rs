@@ -53,6 +53,14 @@ fn only_the_promise_of_the_function_is_weakened() {
 }
 
 #[test]
+fn the_promise_of_a_method_is_weakened_where_it_stands() {
+    let method = "\nimpl Desk {\n    pub fn count(&self) -> u8\n        ensures { result ≡ 3 }\n    {\n        3\n    }\n}\n";
+    let code = format!("{CODE}{method}");
+    let expected = code.replace("{ result ≡ 3 }", "{ result ≡ result }");
+    assert_eq!(weaken_promise(&code, "count").unwrap(), expected);
+}
+
+#[test]
 fn a_function_without_a_promise_is_not_weakened() {
     assert_eq!(weaken_promise(CODE, "plain"), None);
     assert_eq!(weaken_promise(CODE, "adm"), None);

@@ -39,17 +39,17 @@ fn with_equations(code: &str) -> String {
     code.replacen(line, &longer, 1)
 }
 
-/// Where the line begins that begins the function.
-fn begin_of(code: &str, function: &str) -> Option<usize> {
+/// Where the line begins that begins the function, and the spaces that a method has before it.
+fn begin_of<'a>(code: &'a str, function: &str) -> Option<(usize, &'a str)> {
     let is_begin = |line: &str| {
         let behind = line.split_once(&format!("fn {function}"));
         let is_name = behind.is_some_and(|(_, rest)| rest.starts_with(['(', '<']));
-        is_name && !line.starts_with([' ', '/'])
+        is_name && !line.trim_start().starts_with('/')
     };
     let mut at = 0;
     for line in code.split_inclusive('\n') {
         if is_begin(line) {
-            return Some(at);
+            return Some((at, &line[..line.len() - line.trim_start().len()]));
         }
         at += line.len();
     }
@@ -58,12 +58,12 @@ fn begin_of(code: &str, function: &str) -> Option<usize> {
 
 /// The code in which the function promises nothing, or None if the function is not there or has no promise.
 pub fn weaken_promise(code: &str, function: &str) -> Option<String> {
-    let begin = begin_of(code, function)?;
+    let (begin, edge) = begin_of(code, function)?;
     // With a promise the body begins in a line of its own, behind all that is promised.
-    let end = begin + code[begin..].find("\n}")?;
-    let body = begin + code[begin..end].find("\n{\n")?;
-    let first = begin + code[begin..body].find("\n    ensures ")? + 1;
-    let weakened = format!("{}{NOTHING}{}", &code[..first], &code[body..]);
+    let end = begin + code[begin..].find(&format!("\n{edge}}}"))?;
+    let body = begin + code[begin..end].find(&format!("\n{edge}{{\n"))?;
+    let first = begin + code[begin..body].find(&format!("\n{edge}    ensures "))? + 1;
+    let weakened = format!("{}{edge}{NOTHING}{}", &code[..first], &code[body..]);
     Some(with_equations(&weakened))
 }
 
