@@ -155,9 +155,10 @@ pub call_making : (κs : _) (a : _) (r : _) (x : _) → made.Post κs a r x
 call_making κs a r x p = p
 
 pub line_answering : (κs : _) (a : _) (r : _) (x : _) → answers.Post κs a r x
-    → CarriedAs (answered_to (asked_of a.0.now) (record { site = a.1.0; counters = a.1.1.0.now })) (record { site = r; counters = x.1.1.0.now })
+    → (x.1.1.1.0.now.space.ghost_name ≡ a.1.1.1.0.now.space.ghost_name)
+    × CarriedAs (answered_to (asked_of a.0.now) (record { site = a.1.0; counters = a.1.1.0.now })) (record { site = r; counters = x.1.1.0.now })
     (held a.1.1.1.0.now) (held x.1.1.1.0.now)
-line_answering κs a r x p = p.1
+line_answering κs a r x p = (p.0, p.1)
 
 -- What is typed, as far as it is taken up: the whole contract.
 pub taking_up : (κs : _) (a : _) (r : _) (x : _) → taken.Post κs a r x

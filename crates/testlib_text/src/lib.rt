@@ -198,7 +198,8 @@ pub fn put_left(page: &mut Page, name: &[u8], written: Result<usize, Refusal>, b
 // Prints what is put on the page as a line; answers how many bytes it handed over, none without room for the newline.
 #[tactic(auto, unfolding(text::specs::Put::puts, crate::specs::Printed::line_shown))]
 pub fn print_line(page: &mut Page) -> usize
-    ensures { (result, page.new.space.now) ≡ line_shown (held page.old) }
+    ensures same_space { page.new.space.ghost_name ≡ page.old.space.ghost_name }
+    ensures shown { (result, page.new.space.now) ≡ line_shown (held page.old) }
 {
     page.put(b"\n");
     printing::print_page(page)
