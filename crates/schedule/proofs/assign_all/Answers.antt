@@ -16,21 +16,21 @@ returns-then-links-chains c =
 
 pub returns-then-is_none : goal.returns-then-is_none
 returns-then-is_none c =
-    let told = c.assign_to.ensures in
+    let told = c.assign_to-base.ensures in
     let none = base_missing _ _ told.0 c.if-is_none.ensures in
     assigning_crowded _ _ _ _ _ _ _ c.loop-parent.invariant c.loop-parent-test.true _ _ _ _ told.1 c.if-links-chains.false none
 
 pub loop-parent-preserved : goal.loop-parent-preserved
 loop-parent-preserved c =
-    let told = c.assign_to.ensures in
+    let told = c.assign_to-base.ensures in
     let some = base_given _ _ told.0 c.if-is_none.ensures in
     assigning_more _ _ _ _ _ _ _ c.loop-parent.invariant c.loop-parent-test.true _ _ _ _ told.1 some _ _
-    (rw (← c.link_count-links.ensures) at c.spread.ensures) (rw (← c.link_count-links.ensures) at c.spread-in-loop-parent.ensures)
+    (rw (← c.link_count-links.ensures) at c.spread.ensures.0) (rw (← c.link_count-links.ensures) at c.spread.ensures.1)
 
 pub returns-else-is_none : goal.returns-else-is_none
 returns-else-is_none c =
-    let told = c.assign_to.ensures in
+    let told = c.assign_to-base.ensures in
     let some = base_given _ _ told.0 c.if-is_none.ensures in
     let last = assigning_more _ _ _ _ _ _ _ c.loop-parent.invariant c.loop-parent-test.true _ _ _ _ told.1 some _ _
-    (rw (← c.link_count-links.ensures) at c.spread.ensures) (rw (← c.link_count-links.ensures) at c.spread-in-loop-parent.ensures) in
+    (rw (← c.link_count-links.ensures) at c.spread.ensures.0) (rw (← c.link_count-links.ensures) at c.spread.ensures.1) in
     assigning_end _ _ _ _ _ _ _ last (omega arith)
