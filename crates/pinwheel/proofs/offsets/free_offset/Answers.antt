@@ -2,7 +2,9 @@ use mathlib.Core.Path.{◌≡◌, refl, sym, ◌∙◌, ap}
 use mathlib.Core.Bool.{true, false, not}
 use Prim.Native.Nat.{◌-◌}
 use lib.ListN.{length}
+use borrow.Author.Tests.{eq-eqb, ne_eqb}
 use native.Mathlib.Omega.{arith}
+use Rattle.slot_rule.specs.Rule.{sends}
 use Rattle.pinwheel.specs.Inner.{steps_of, places_of, some_sends}
 use Rattle.pinwheel.proofs.offsets.free_offset.Invariants.{one}
 use Rattle.pinwheel.proofs.Laws.Turns.{dealt_sends}
@@ -16,17 +18,19 @@ earlier-init c =
     record { same = refl; below = c.if-candidate-period.false; answer = c.search.invariant; none = rw all }
 
 pub search-preserved : goal.search-preserved
+unfolding sends
 search-preserved c =
     let try = c.earlier.invariant in
     let sent : one (steps_of c.args.dealt.now) (places_of c.args.dealt.now) c.earlier.candidate c.earlier.child-index ≡ true =
-    dealt_sends _ _ _ c.earlier-test.true ∙ sym (rw c.from.ensures at c.sends_in.ensures) ∙ c.if-sends_in.true in
+    dealt_sends _ _ _ c.earlier-test.true ∙ eq-eqb _ _ c.if-candidate-child.true in
     try.answer ∙ first_miss _ _ _ try.below (ap not (try.none ∙ any_hit _ _ _ c.earlier-test.true sent))
 
 pub earlier-preserved : goal.earlier-preserved
+unfolding sends
 earlier-preserved c =
     let try = c.earlier.invariant in
     let silent : one (steps_of c.args.dealt.now) (places_of c.args.dealt.now) c.earlier.candidate c.earlier.child-index ≡ false =
-    dealt_sends _ _ _ c.earlier-test.true ∙ sym (rw c.from.ensures at c.sends_in.ensures) ∙ c.if-sends_in.false in
+    dealt_sends _ _ _ c.earlier-test.true ∙ ne_eqb _ _ c.if-candidate-child.false in
     record {
       same = try.same;
       below = try.below;
