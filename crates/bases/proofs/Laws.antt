@@ -1,24 +1,26 @@
 -- Where the answers to anything asked are those of the slot rule.
-use Prim.Native.Nat.{ℕ, suc, ◌/◌, ◌^◌, ◌≤◌, ◌<◌}
-use mathlib.Core.Path.{◌≡◌, refl}
+use Prim.Native.Nat.{ℕ, suc, ◌+◌, ◌^◌, ◌≤◌, ◌<◌, min, max}
+use mathlib.Core.Path.{◌≡◌, ap}
 use mathlib.Core.Bool.{◌||◌, true, false}
 use mathlib.Core.List.{List, [], ◌∷◌}
 use lib.Dec.{eqb, ltb}
-use lib.ListN.{length, get_or}
+use lib.ListN.{length, get_or, drop, drop_of_length-le}
+use lib.Seq.{drop-cons}
 use borrow.Author.Tests.{le-ltb, ne_eqb}
-use native.Mathlib.Nat.{mul_comm, div-eq_of_eq-mul_left}
+use native.Mathlib.Nat.{mul-le-mul_right}
+use native.Mathlib.Numerals.{add-one}
 use native.Mathlib.Omega.{arith}
-use Rattle.std.specs.Prelude.{Option, Some, None, MatchOption, IfSome, IsSomeAnd, unwrap_or}
-use Rattle.std.proofs.Common.{nat_cmp, is_lt, is_gt}
+use Rattle.std.specs.Prelude.{Option, Some, None, MatchOption, IfSome, IsSomeAnd}
+use Rattle.std.proofs.Common.{nat_cmp, is_lt}
 use Rattle.std.proofs.lemmas.Grind.{common_steps}
 use Rattle.std.specs.List.{AllWithin, HoldsAt}
-use Rattle.lists.specs.Lists.{smallest, largest}
+use Rattle.lists.specs.Lists.{least, smallest, largest}
 use Rattle.lists.specs.Search.{some_below, some_of}
 use Rattle.lists.proofs.Laws.Search.{some_when, some_is, none_is, below_when, past_when, first_is, first_none}
-use Rattle.slot_rule.specs.Rule.{exponent, period, base}
+use Rattle.slot_rule.specs.Rule.{period, base}
 use Rattle.slot_rule.specs.Assign.{bad_gap, first_bad}
-use Rattle.slot_rule.proofs.Laws.Bases.{smallest_within, smallest_met, largest_above}
-use Rattle.slot_rule.proofs.Laws.Periods.{period_least}
+use Rattle.slot_rule.proofs.Laws.Bases.{smallest_within, smallest_met}
+use Rattle.slot_rule.proofs.Laws.Periods.{Grown, period_least}
 use Rattle.bases.specs.Inner.{period_or_none, base_or_none}
 
 pub period_asked : (f b g : ℕ) → 2 ≤ f → 1 ≤ b → b ≤ g → period_or_none f b g ≡ period f b g
@@ -33,10 +35,38 @@ base_asked f gaps two some few = let n : length gaps ≡ 0 → ⊥ = omega arith
 pub period_some : (f b g : ℕ) → 2 ≤ f → 1 ≤ b → b ≤ g → Some (period f b g) ≡ some_of (period_or_none f b g)
 period_some f b g two one l = rw (period_asked f b g two one l) (some_when _ (omega (arith, period_least f two b g)))
 
--- Divided by the base, a period is the power of the factor.
-pub whole_of : (f b g : ℕ) → 1 ≤ b → period f b g / b ≡ f ^ exponent f b g
-unfolding period
-whole_of f b g one = div-eq_of_eq-mul_left (omega arith) (mul_comm b (f ^ exponent f b g))
+-- The power that stands beside a number that the loop for a period reaches is at most that number.
+pub grown_power : (f b g p x : ℕ) → 1 ≤ b → Grown (λ e. f ^ e) f b g p x → x ≤ p
+grown_power f b g p x one w = omega (arith, w.power, w.beside, mul-le-mul_right (f ^ w.exponent) one)
+
+-- The smallest and the largest number, of which the first i entries are in.
+pub record Spanned (xs : List ℕ) (i low high : ℕ) : Type 0 where
+  pub upto : i ≤ length xs
+  pub lower : least low (drop i xs) ≡ smallest xs
+  pub upper : max high (largest (drop i xs)) ≡ largest xs
+
+-- Of a list that is not empty: with the first number for both, before the first entry.
+pub spanned_start : (xs : List ℕ) → 1 ≤ length xs → Spanned xs 0 (get_or xs 0 0) (get_or xs 0 0)
+unfolding smallest largest least
+spanned_start [] l = absurd (omega arith)
+spanned_start (x ∷ xs) l = record { upto = omega arith; lower = let e : min x x ≡ x = omega arith in ap (λ (n : ℕ). least n xs) e; upper = omega arith }
+
+module _ (xs : List ℕ) (i low high : ℕ) (s : Spanned xs i low high) where
+  pub spanned_more : (low' high' : ℕ) → i < length xs → low' ≡ min low (get_or xs i 0) → high' ≡ max high (get_or xs i 0)
+      → Spanned xs (i + 1) low' high'
+  unfolding least largest
+  spanned_more low' high' l p q =
+      record { upto = omega arith; lower = rw (p, add-one) (rw rest at s.lower); upper = rw (q, add-one) (omega (arith, rw rest at s.upper)) }
+    where
+      rest : drop i xs ≡ get_or xs i 0 ∷ drop (suc i) xs
+      rest = drop-cons xs i 0 l
+
+  pub spanned_end : length xs ≤ i → (low ≡ smallest xs) × (high ≡ largest xs)
+  unfolding least largest
+  spanned_end l =
+      let none = drop_of_length-le xs l in
+      let upper = rw none at s.upper in
+      (rw none at s.lower, omega arith)
 
 -- A base from 1 up, or none.
 pub base_some : (f : ℕ) (gaps : List ℕ) → 2 ≤ f → 1 ≤ length gaps → length gaps ≤ 63 → (b : ℕ) → 1 ≤ b → b ≡ base f gaps → Some b ≡ some_of (base_or_none f gaps)
@@ -66,29 +96,13 @@ bad_is gaps (Some i) Yes No is not w =
 at_least : (m x : ℕ) → is_lt (nat_cmp x m) ≡ false → m ≤ x
 at_least m x e = grind (arith, common_steps)
 
-at_most : (m x : ℕ) → is_gt (nat_cmp x m) ≡ false → x ≤ m
-at_most m x e = grind (arith, common_steps)
-
-nil_when : (xs : List ℕ) → length xs ≡ 0 → xs ≡ []
-nil_when [] e = refl
-nil_when (x ∷ xs) e = absurd (omega arith)
-
-largest_within : (xs : List ℕ) (m : ℕ) → ((k : ℕ) → k < length xs → get_or xs k 0 ≤ m) → largest xs ≤ m
-unfolding largest
-largest_within [] m high = omega arith
-largest_within (x ∷ xs) m high = omega (arith, high 0 (omega arith), largest_within xs m (λ k l. high (suc k) (omega arith)))
-
--- The smallest and the largest number, from what `min` and `max` say of a list that they went over whole.
+-- The smallest number, from what `min` says of a list that it went over whole.
 module _ (xs : List ℕ) (n : ℕ) (at : ℕ → Option ℕ) (long : n ≡ length xs) (each : (k : ℕ) → k < n → at k ≡ Some (get_or xs k 0)) where
   abbrev Meets : ℕ → Type 0
   Meets m = (k : ℕ) × (k < n) × IsSomeAnd (at k) (λ x. x ≡ m)
 
   met : (m : ℕ) → Meets m → (k : ℕ) × (k < length xs) × (get_or xs k 0 ≡ m)
   met m (k, l, e) = (k, omega arith, rw (each k l) at e)
-
-  none_largest : n ≡ 0 → 0 ≡ largest xs
-  unfolding largest
-  none_largest e = let z : xs ≡ [] = nil_when xs (omega arith) in rw z
 
   pub smallest_is : (r : Option ℕ) → MatchOption r (n ≡ 0) (λ m. Meets m × ((k : ℕ) → IfSome (at k) (λ x. is_lt (nat_cmp x m) ≡ false)))
       → MatchOption r (length xs ≡ 0) (λ m. (1 ≤ length xs) × (m ≡ smallest xs))
@@ -99,15 +113,3 @@ module _ (xs : List ℕ) (n : ℕ) (at : ℕ → Option ℕ) (long : n ≡ lengt
         omega arith,
         omega (arith, smallest_within xs here.0 here.1, here.2, at_least m (get_or xs least.0 0) (rw (each least.0 (omega arith)) at (low least.0)), least.2),
       )
-
-  pub largest_is : (r : Option ℕ) → MatchOption r (n ≡ 0) (λ m. Meets m × ((k : ℕ) → IfSome (at k) (λ x. is_gt (nat_cmp x m) ≡ false)))
-      → unwrap_or r 0 ≡ largest xs
-  largest_is None e = none_largest e
-  largest_is (Some m) (w, high) =
-      let here = met m w in
-      omega (arith, largest_above xs here.0 here.1, here.2, largest_within xs m (λ k l. at_most m (get_or xs k 0) (rw (each k (omega arith)) at (high k))))
-
-pub smallest_or : (xs : List ℕ) (r : Option ℕ) → MatchOption r (length xs ≡ 0) (λ m. (1 ≤ length xs) × (m ≡ smallest xs)) → unwrap_or r 0 ≡ smallest xs
-unfolding smallest
-smallest_or xs None e = let z : xs ≡ [] = nil_when xs e in rw z
-smallest_or xs (Some m) w = w.1

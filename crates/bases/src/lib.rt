@@ -16,27 +16,26 @@ pub fn first_bad(gaps: &[u16]) -> Option<usize>
     gaps.iter().position(|gap| *gap == 0 || 1024 < *gap)
 }
 
-// What a base gives a gap: the period, which is the base times a power of the factor, and `whole` divided by that power.
+// A gap's period, which is the base times this power of the factor.
 #[derive(Clone, Copy, PartialEq, Eq, Debug)]
 struct Rise {
     period: u16,
-    share: u16,
+    power: u16,
 }
 
-// The base times the factor, as often as it stays within the gap, and `whole` divided by the factor each time. No product exceeds the gap. With the factor 2
-// each division is a shift, which costs less than one by the period.
-fn rise_of(gap: u16, base: u16, factor: u16, whole: u16) -> Rise
+// The base times the factor, as often as it stays within the gap. No product exceeds the gap.
+fn rise_of(gap: u16, base: u16, factor: u16) -> Rise
     requires { (2 ≤ factor) × (1 ≤ base) × (base ≤ gap) }
-    ensures { (result.period ≡ period factor base gap) × (result.share ≡ whole / factor ^ exponent factor base gap) }
+    ensures { (result.period ≡ period factor base gap) × (result.power ≡ factor ^ exponent factor base gap) }
 {
     let top = gap / factor;
     let mut period = base;
-    let mut share = whole;
+    let mut power = 1;
     while period <= top {
         period *= factor;
-        share /= factor;
+        power *= factor;
     }
-    Rise { period, share }
+    Rise { period, power }
 }
 
 // Rule 2 for one gap.
@@ -47,34 +46,61 @@ pub fn period_of(gap: u16, base: u16, factor: u16) -> Option<u16>
     if factor < 2 || base == 0 || gap < base {
         return None;
     }
-    Some(rise_of(gap, base, factor, 1).period)
+    Some(rise_of(gap, base, factor).period)
 }
 
-// The smallest of the gaps, which rule 1 bounds the bases by, and the largest.
-fn smallest(gaps: &[u16]) -> u16
-    ensures { result ≡ smallest gaps.now }
+// One pass for both: rule 1 bounds the bases by the smallest gap, and the largest has the limit of rule 3 for its period.
+#[derive(Clone, Copy, PartialEq, Eq, Debug)]
+struct Span {
+    low: u16,
+    high: u16,
+}
+
+fn span_of(gaps: &[u16]) -> Span
+    requires { 1 ≤ length gaps.now }
+    ensures { (result.low ≡ smallest gaps.now) × (result.high ≡ largest gaps.now) }
 {
-    gaps.iter().copied().min().unwrap_or(0)
+    let mut low = gaps[0];
+    let mut high = gaps[0];
+    for gap in gaps {
+        if *gap < low {
+            low = *gap;
+        }
+        if high < *gap {
+            high = *gap;
+        }
+    }
+    Span { low, high }
 }
 
-fn largest(gaps: &[u16]) -> u16
-    ensures { result ≡ largest gaps.now }
+// What a child with this gap adds to the sum, f^(J-j), where `whole` is f^J: it is divided by the factor each time that the base is multiplied by it. With the
+// factor 2 this is a shift, which costs less than a division by the period.
+fn share(whole: u16, gap: u16, base: u16, factor: u16) -> u16
+    requires { (2 ≤ factor) × (1 ≤ base) × (base ≤ gap) }
+    ensures { result ≡ whole / factor ^ exponent factor base gap }
 {
-    gaps.iter().copied().max().unwrap_or(0)
+    let top = gap / factor;
+    let mut grown = base;
+    let mut times = whole;
+    while grown <= top {
+        grown *= factor;
+        times /= factor;
+    }
+    times
 }
 
-// Rule 3 in whole numbers: the limit is the largest gap's period, b × f^J, and a child's share of f^J is f^(J-j).
+// Rule 3 in whole numbers: J is the largest gap's j, and the limit is that gap's period, b × f^J. The walk that makes it has the power f^J too, so that no base
+// costs a division.
 fn fits(gaps: &[u16], most: u16, base: u16, factor: u16) -> bool
     requires { AllowedBase factor base gaps.now × (most ≡ largest gaps.now) × (1 ≤ length gaps.now) × (length gaps.now ≤ 63) }
     ensures { result ≡ fits factor base gaps.now }
 {
-    let limit = rise_of(most, base, factor, 1).period;
-    let whole = limit / base;
+    let limit = rise_of(most, base, factor);
     let mut sum: u32 = 0;
     for gap in gaps {
-        sum += u32::from(rise_of(*gap, base, factor, whole).share);
+        sum += u32::from(share(limit.power, *gap, base, factor));
     }
-    sum <= u32::from(limit)
+    sum <= u32::from(limit.period)
 }
 
 // Rule 4 for the gaps of one parent's children. A base at most the smallest gap / factor gives the periods of a larger one, so only those above are tried.
@@ -85,12 +111,14 @@ pub fn base_of(gaps: &[u16], factor: u16) -> Option<u16>
     if factor < 2 || gaps.is_empty() || 63 < gaps.len() {
         return None;
     }
-    let low = smallest(gaps);
-    let most = largest(gaps);
-    for base in (low / factor + 1..=low).rev() {
-        if fits(gaps, most, base, factor) {
+    let span = span_of(gaps);
+    let mut base = span.low;
+    let tried = base / factor;
+    while tried < base {
+        if fits(gaps, span.high, base, factor) {
             return Some(base);
         }
+        base -= 1;
     }
     None
 }

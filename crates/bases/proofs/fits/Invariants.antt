@@ -5,4 +5,4 @@ use Rattle.lists.proofs.Laws.Lists.{Summed}
 use Rattle.bases.proofs.fits.Given as goal
 
 abbrev pub invariant-loop-gap : goal.invariant-loop-gap
-invariant-loop-gap l = Summed (λ g. l.whole / l.factor ^ exponent l.factor l.base g) 65535 l.gaps l.gap-index l.sum
+invariant-loop-gap l = Summed (λ g. l.limit.power / l.factor ^ exponent l.factor l.base g) 65535 l.gaps l.gap-index l.sum

@@ -1,9 +1,0 @@
-use Rattle.std.proofs.Common.{◌∙◌, arith}
-use Rattle.std.proofs.lemmas.Grind.{common_steps}
-use Rattle.bases.proofs.Laws.{largest_is}
-use Rattle.bases.proofs.largest.Goals as goal
-
-pub returns : goal.returns
-returns c =
-    let run = c.max.ensures.runs in
-    c.unwrap_or.ensures ∙ largest_is c.args.gaps.now run.0.len run.0.at (grind (arith, common_steps)) (λ k l. grind (arith, common_steps)) _ run.3
