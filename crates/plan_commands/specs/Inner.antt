@@ -1,5 +1,5 @@
 -- What the functions for single commands tell, whatever they are handed. The promises of operations cite none of this.
-use Rattle.std.specs.Prelude.{ℕ, ◌+◌, ◌≡◌, Bool, cond, List, [], ◌∷◌, ltb, leb, length, get_or}
+use Rattle.std.specs.Prelude.{ℕ, ◌+◌, ◌≡◌, Bool, cond, List, ltb, leb, length}
 use Rattle.site.specs.declared.Flow.{Flow}
 use Rattle.limits.specs.declared.Node.{Node}
 use Rattle.plan_commands.specs.Commands.{Draft, node_at, flow_at, fault}
@@ -13,11 +13,6 @@ pub record Known (d : Draft) (links next : ℕ) (parents : List ℕ) : Type 0 wh
 -- 01, 10: bytes stand behind an END at index `at`.
 unfoldable pub more_behind : ℕ → ℕ → Bool
 more_behind size at = ltb (at + 1) size
-
--- The five bytes behind that of a command.
-abbrev pub operands_of : List ℕ → ℕ → List ℕ
-operands_of bytes at =
-    get_or bytes (at + 1) 0 ∷ get_or bytes (at + 2) 0 ∷ get_or bytes (at + 3) 0 ∷ get_or bytes (at + 4) 0 ∷ get_or bytes (at + 5) 0 ∷ []
 
 -- The operands of a NODE, of a FLOW, and zeros where not all of their bytes are there.
 unfoldable pub node_within : List ℕ → ℕ → Node

@@ -1,50 +1,54 @@
 // The commands of a plan, each by itself: its operands and its checks. What bytes come to as a whole is for the reader.
 #![tactic(auto)]
 
-ghost use Rattle.std.specs.Prelude.{◌≡◌, ◌+◌, cond, leb, length, replicate};
+ghost use Rattle.std.specs.Prelude.{◌≡◌};
 ghost use Rattle.rulings.specs.Outcome.{fault_number};
 ghost use Rattle.plan_commands.specs.Commands.{Draft, node_fault};
-ghost use Rattle.plan_commands.specs.Inner.{Known, operands_of, more_behind, node_within, flow_within, fault_at};
+ghost use Rattle.plan_commands.specs.Inner.{Known, more_behind, node_within, flow_within, fault_at};
 
 use format::NODE;
 use limits::Node;
 use rulings::Fault;
 use site::{Flow, Site};
 
-// The five bytes of operands of the command at index `at`, zeros where not all of them are there.
-fn operands(bytes: &[u8], at: usize) -> [u8; 5]
-    ensures { result ≡ cond (leb (at + 6) (length bytes.now)) (operands_of bytes.now at) (replicate 5 0) }
-{
-    match bytes.get(at..) {
-        Some([_, a, b, c, d, e, ..]) => [*a, *b, *c, *d, *e],
-        _ => [0; 5],
-    }
-}
-
-// The operands of the NODE at index `at`, zeros where not all of its bytes are there.
-#[tactic(auto, using(format::proofs::Laws::number_one, format::proofs::Laws::number_two), unfolding(crate::specs::Inner::node_within, crate::specs::Commands::node_at))]
+// The operands of the NODE at index `at`, zeros where not all of its bytes are there. One test finds them all there, and each is read from where it stands:
+// this is done twice for each command of a plan, and an array of the five between would take up to 1.7 times the steps.
+#[tactic(auto, using(crate::proofs::Laws::Commands::node_left), unfolding(crate::specs::Inner::node_within))]
 pub fn node_at(bytes: &[u8], at: usize) -> Node
     ensures { result ≡ node_within bytes.now at }
 {
-    let [parent, capacity_low, capacity_high, gap_low, gap_high] = operands(bytes, at);
-    Node {
-        parent,
-        capacity: format::word(capacity_low, capacity_high),
-        gap: format::word(gap_low, gap_high),
+    match bytes.get(at..) {
+        Some([_, parent, low, high, gap_low, gap_high, ..]) => Node {
+            parent: *parent,
+            capacity: format::word(*low, *high),
+            gap: format::word(*gap_low, *gap_high),
+        },
+        _ => Node {
+            parent: 0,
+            capacity: 0,
+            gap: 0,
+        },
     }
 }
 
 // The operands of the FLOW at index `at`, zeros where not all of its bytes are there.
-#[tactic(auto, using(format::proofs::Laws::number_one, format::proofs::Laws::number_two), unfolding(crate::specs::Inner::flow_within, crate::specs::Commands::flow_at))]
+#[tactic(auto, using(crate::proofs::Laws::Commands::flow_left), unfolding(crate::specs::Inner::flow_within))]
 pub fn flow_at(bytes: &[u8], at: usize) -> Flow
     ensures { result ≡ flow_within bytes.now at }
 {
-    let [number, entry, rate, deadline_low, deadline_high] = operands(bytes, at);
-    Flow {
-        number,
-        entry,
-        rate,
-        deadline: format::word(deadline_low, deadline_high),
+    match bytes.get(at..) {
+        Some([_, number, entry, rate, deadline_low, deadline_high, ..]) => Flow {
+            number: *number,
+            entry: *entry,
+            rate: *rate,
+            deadline: format::word(*deadline_low, *deadline_high),
+        },
+        _ => Flow {
+            number: 0,
+            entry: 0,
+            rate: 0,
+            deadline: 0,
+        },
     }
 }
 

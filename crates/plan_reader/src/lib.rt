@@ -9,7 +9,7 @@ ghost use Rattle.plan_commands.specs.Commands.{with_node};
 ghost use Rattle.judgement.specs.Judge.{with_site};
 ghost use Rattle.plan_reader.specs.Read.{read_of};
 
-use format::{END, NODE};
+use format::{END, FLOW, NODE};
 use judgement::Judged;
 use limits::Node;
 use rulings::{Fault, Refusal};
@@ -62,15 +62,19 @@ pub fn read_with(bytes: &[u8], loads: &mut [u32; 63]) -> Result<Site, Refusal>
         if let Err(fault) = plan_commands::judge_command(bytes, at, &site, next) {
             return Err(fault.at(at));
         }
+        // NODE and FLOW each go on by their own size, which is a constant: so the next command is begun before the first byte of this one has come from memory.
         match tag {
-            NODE => take_node(&mut site, plan_commands::node_at(bytes, at)),
+            NODE => {
+                take_node(&mut site, plan_commands::node_at(bytes, at));
+                at += format::size(NODE);
+            }
             _ => {
                 let flow = plan_commands::flow_at(bytes, at);
                 take_flow(&mut site, flow);
                 next = flow.number + 1;
+                at += format::size(FLOW);
             }
         }
-        at += format::size(tag);
     }
     Err(Fault::CutOff.at(bytes.len()))
 }

@@ -7,6 +7,8 @@ use lib.Dec.{ltb, leb}
 use lib.ListN.{length, get_or}
 use borrow.Author.Tests.{lt-ltb, le-leb, ltb-true, ltb-false, leb-false}
 use native.Mathlib.Omega.{arith}
+use Rattle.std.specs.List.{slice_range}
+use Rattle.std.proofs.lemmas.Grind.{common_steps}
 use Rattle.site.specs.declared.Flow.{Flow}
 use Rattle.limits.specs.declared.Node.{Node}
 use Rattle.limits.specs.Words.{NodeGood}
@@ -77,3 +79,20 @@ module _ (bytes : List ℕ) (at : ℕ) where
   pub fault_at_command : (d : Draft) → at < length bytes → fault_at bytes at d ≡ fault bytes at d
   unfolding fault_at
   fault_at_command d l = simp (lt-ltb _ _ l)
+
+-- The operands by what stands from index `at` on, all of them being there.
+module _ (bytes : List ℕ) (at : ℕ) (left : List ℕ) (is : left ≡ slice_range bytes at (length bytes)) (whole : at + 6 ≤ length bytes) where
+  behind : (i : ℕ) → i < 6 → get_or left i 0 ≡ get_or bytes (at + i) 0
+  behind i l = rw is (grind (arith, common_steps))
+
+  pub node_left : (c g : ℕ) → c ≡ get_or left 2 0 + 256 * get_or left 3 0 → g ≡ get_or left 4 0 + 256 * get_or left 5 0
+      → record { parent = get_or left 1 0; capacity = c; gap = g } ≡ node_within bytes at
+  node_left c g ec eg =
+      node_at_lem bytes at _ _ _ (behind 1 (omega arith)) (rw (← behind 2 (omega arith), ← behind 3 (omega arith)) ec) (rw (← behind 4 (omega arith), ← behind 5 (omega arith)) eg)
+      ∙ sym (node_whole bytes at (omega arith))
+
+  pub flow_left : (t : ℕ) → t ≡ get_or left 4 0 + 256 * get_or left 5 0
+      → record { number = get_or left 1 0; entry = get_or left 2 0; rate = get_or left 3 0; deadline = t } ≡ flow_within bytes at
+  flow_left t et =
+      flow_at_lem bytes at _ _ _ _ (behind 1 (omega arith)) (behind 2 (omega arith)) (behind 3 (omega arith)) (rw (← behind 4 (omega arith), ← behind 5 (omega arith)) et)
+      ∙ sym (flow_whole bytes at (omega arith))

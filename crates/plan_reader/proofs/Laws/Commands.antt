@@ -42,6 +42,13 @@ module _ (bytes : List ℕ) (at : ℕ) (d : Draft) (l : at < length bytes) (pass
   pub flow_fits : (get_or bytes at 0 ≡ 1 → ⊥) → (f : Flow) → f ≡ flow_within bytes at → f.number < 64
   flow_fits other f q = rw (q ∙ flow_whole bytes at (none_within bytes at d none)) (flow_number _ _ (flow_none bytes at d none other).1).0
 
+  -- Each of the two goes on by its own size.
+  pub node_goes : get_or bytes at 0 ≡ 1 → (m : ℕ) → m ≡ size_of 1 → m ≡ size_of (get_or bytes at 0)
+  node_goes one m is = rw one is
+
+  pub flow_goes : (get_or bytes at 0 ≡ 1 → ⊥) → (m : ℕ) → m ≡ size_of 2 → m ≡ size_of (get_or bytes at 0)
+  flow_goes other m is = rw (flow_none bytes at d none other).0 is
+
   -- The reading goes on behind it with what it adds.
   module _ (going : get_or bytes at 0 ≡ 255 → ⊥) (reads : read_on plans bytes at d ≡ decode bytes) (m : ℕ) (is : m ≡ size_of (get_or bytes at 0)) where
     pub node_read : get_or bytes at 0 ≡ 1 → (n : Node) → n ≡ node_within bytes at → read_on plans bytes (at + m) (node_added d n) ≡ decode bytes

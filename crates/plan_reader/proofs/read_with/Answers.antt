@@ -7,13 +7,12 @@ use Rattle.rulings.specs.Outcome.{settled}
 use Rattle.plan_commands.specs.Commands.{plans, node_added, flow_added}
 use Rattle.plan_commands.proofs.Laws.Commands.{end_more, end_last, fault_at_command}
 use Rattle.plan_commands.proofs.Laws.Decode.{decode_start}
-use Rattle.plan_reader.proofs.Laws.Commands.{refused_form, accepted_form, size_fits, node_fits, flow_fits, node_read, flow_read}
+use Rattle.plan_reader.proofs.Laws.Commands.{refused_form, accepted_form, size_fits, node_fits, flow_fits, node_goes, flow_goes, node_read, flow_read}
 use Rattle.format.proofs.Laws.Reading.{read_out, read_end, read_fault}
 use Rattle.plan_commands.specs.Inner.{Known}
 use Rattle.site.specs.declared.Site.{Site}
 use Rattle.plan_reader.proofs.read_with.Invariants.{reading}
 use Rattle.plan_reader.proofs.read_with.Goals as goal
-use Rattle.plan_reader.proofs.read_with.Goals.{in-1, in_default-tag}
 
 known : (s : Site) (n : ℕ) → Known (reading s n) s.links n s.parents
 known s n = record { many = refl; least = refl; tree = refl }
@@ -62,23 +61,34 @@ take_flow-requires c = flow_fits _ _ (reading c.loop-at.site c.loop-at.next) (om
 pub overflow_add-next : goal.overflow_add-next
 overflow_add-next c = omega (arith, flow_fits _ _ (reading c.loop-at.site c.loop-at.next) (omega arith) (c.in_default.ensures _ (known _ _)) (search rules) _ c.flow_at-flow.ensures)
 
-pub overflow_add-at-in-loop-at : goal.overflow_add-at-in-loop-at
-overflow_add-at-in-loop-at c = omega (arith, size_fits _ _ (reading c.loop-at.site c.loop-at.next) (omega arith) (c.in_default.ensures _ (known _ _)) _ c.size-at.ensures)
+pub overflow_add-at-in-1 : goal.overflow_add-at-in-1
+overflow_add-at-in-1 c = omega (arith, size_fits _ _ (reading c.loop-at.site c.loop-at.next) (omega arith) (c.in_default.ensures _ (known _ _)) _ (node_goes _ _ (reading c.loop-at.site c.loop-at.next) (omega arith) (c.in_default.ensures _ (known _ _)) c.in-1.is _ c.size-at.ensures))
+
+pub loop-at-smaller-in-1 : goal.loop-at-smaller-in-1
+loop-at-smaller-in-1 c = omega (arith, size_fits _ _ (reading c.loop-at.site c.loop-at.next) (omega arith) (c.in_default.ensures _ (known _ _)) _ (node_goes _ _ (reading c.loop-at.site c.loop-at.next) (omega arith) (c.in_default.ensures _ (known _ _)) c.in-1.is _ c.size-at.ensures))
+
+pub loop-at-preserved-in-1 : goal.loop-at-preserved-in-1
+unfolding node_added
+loop-at-preserved-in-1 c = record {
+  kept = c.loop-at.invariant.kept;
+  reads =
+      rw c.take_node.ensures (node_read _ _ (reading c.loop-at.site c.loop-at.next) (omega arith) (c.in_default.ensures _ (known _ _)) c.if-tag.false c.loop-at.invariant.reads _
+      (node_goes _ _ (reading c.loop-at.site c.loop-at.next) (omega arith) (c.in_default.ensures _ (known _ _)) c.in-1.is _ c.size-at.ensures) c.in-1.is _ c.node_at.ensures);
+}
+
+pub overflow_add-at-in_default-tag : goal.overflow_add-at-in_default-tag
+overflow_add-at-in_default-tag c = omega (arith, size_fits _ _ (reading c.loop-at.site c.loop-at.next) (omega arith) (c.in_default.ensures _ (known _ _)) _ (flow_goes _ _ (reading c.loop-at.site c.loop-at.next) (omega arith) (c.in_default.ensures _ (known _ _)) (search rules) _ c.size-at-in_default-tag.ensures))
 
 pub loop-at-smaller : goal.loop-at-smaller
-loop-at-smaller c = omega (arith, size_fits _ _ (reading c.loop-at.site c.loop-at.next) (omega arith) (c.in_default.ensures _ (known _ _)) _ c.size-at.ensures)
+loop-at-smaller c = omega (arith, size_fits _ _ (reading c.loop-at.site c.loop-at.next) (omega arith) (c.in_default.ensures _ (known _ _)) _ (flow_goes _ _ (reading c.loop-at.site c.loop-at.next) (omega arith) (c.in_default.ensures _ (known _ _)) (search rules) _ c.size-at-in_default-tag.ensures))
 
 pub loop-at-preserved : goal.loop-at-preserved
-unfolding node_added flow_added
+unfolding flow_added
 loop-at-preserved c = record {
   kept = c.loop-at.invariant.kept;
   reads =
-      elim c.match-tag.branch [
-        | in-1 w ↦ rw (w.site-is, w.next-is, w.take_node.ensures)
-            (node_read _ _ (reading c.loop-at.site c.loop-at.next) (omega arith) (c.in_default.ensures _ (known _ _)) c.if-tag.false c.loop-at.invariant.reads _ c.size-at.ensures w.in-1.is _ w.node_at.ensures)
-        | in_default-tag w ↦ rw (w.site-is, w.next-is, w.take_flow.ensures)
-            (flow_read _ _ (reading c.loop-at.site c.loop-at.next) (omega arith) (c.in_default.ensures _ (known _ _)) c.if-tag.false c.loop-at.invariant.reads _ c.size-at.ensures (search rules) _ w.flow_at-flow.ensures)
-      ];
+      rw c.take_flow.ensures (flow_read _ _ (reading c.loop-at.site c.loop-at.next) (omega arith) (c.in_default.ensures _ (known _ _)) c.if-tag.false c.loop-at.invariant.reads _
+      (flow_goes _ _ (reading c.loop-at.site c.loop-at.next) (omega arith) (c.in_default.ensures _ (known _ _)) (search rules) _ c.size-at-in_default-tag.ensures) (search rules) _ c.flow_at-flow.ensures);
 }
 
 pub returns-clause-site : goal.returns-clause-site
