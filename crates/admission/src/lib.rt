@@ -28,7 +28,7 @@ fn judge_release(site: &Site, counters: &[u32], number: u8) -> Verdict
     if let Err(fault) = site_check::call_fault(site, counters) {
         return Err(fault.at(0));
     }
-    flow_checks::judge_number(site, number)
+    flow_checks::judge_number(&site.states, number)
 }
 
 // 01: an accepted admission makes the flow live and sets its nine cells to 0.

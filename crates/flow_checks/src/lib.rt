@@ -3,6 +3,8 @@
 
 ghost use Rattle.std.specs.Prelude.{◌≡◌};
 ghost use Rattle.rulings.specs.Outcome.{outcome};
+ghost use Rattle.site.specs.declared.Site.{Site};
+ghost use Rattle.site.specs.Sites.{with_states};
 ghost use Rattle.flow_checks.specs.Flows.{number_ruling};
 ghost use Rattle.flow_checks.specs.Inner.{flow_ruling_by};
 
@@ -32,15 +34,16 @@ pub fn judge_flow(site: &Site, loads: &[u32; 63], flow: Flow) -> Verdict
     Ok(())
 }
 
-// The checks of a number that is to go besides 1 and 14, in their order: 5, 16. It is no operation of 01 either: the law is `release_judged` there.
+// The checks of a number that is to go besides 1 and 14, in their order: 5, 16. They need the states alone. It is no operation of 01 either: the law is
+// `release_judged` there.
 #[tactic(auto, unfolding(crate::specs::Flows::number_ruling))]
-pub fn judge_number(site: &Site, number: u8) -> Verdict
-    ensures { outcome result ≡ number_ruling site.now number }
+pub fn judge_number(states: &[u8], number: u8) -> Verdict
+    ensures { (s : Site) → outcome result ≡ number_ruling (with_states s states.now) number }
 {
     if 63 < number {
         return Err(Fault::OutsideLimits.at(0));
     }
-    if !site.is_live(number) {
+    if !site::live_in(states, number) {
         return Err(Fault::NumberNotLive.at(number as usize));
     }
     Ok(())

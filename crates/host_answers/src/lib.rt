@@ -52,7 +52,7 @@ pub fn sizes(site: &Site) -> u64
 pub fn bound_of(site: &Site, number: u8) -> u64
     ensures { told result ≡ valued (number_ruling site.now number) (delay_bound site.now number) }
 {
-    match flow_checks::judge_number(site, number) {
+    match flow_checks::judge_number(&site.states, number) {
         Ok(()) => u64::from(bounds::delay_bound(site, number)),
         Err(refused) => refusal(refused),
     }

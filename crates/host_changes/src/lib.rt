@@ -107,7 +107,7 @@ pub fn release(plan: &[u8], counters: &mut [u32], number: u8, out: &mut [u8]) ->
     let Ok(site) = plan_reader::read_site(plan) else {
         return refusal_of(Fault::NoSite);
     };
-    match flow_checks::judge_number(&site, number) {
+    match flow_checks::judge_number(&site.states, number) {
         Ok(()) => dropped(&site, plan, counters, number, out),
         Err(refused) => refusal(refused),
     }

@@ -46,6 +46,10 @@ with_flows s states entries rates deadlines = record {
   deadlines = deadlines;
 }
 
+-- The site with other states. Functions that are lent the states alone promise what they do for every site that has them.
+abbrev pub with_states : Site → List ℕ → Site
+with_states s states = with_flows s states s.entries s.rates s.deadlines
+
 -- The site with these fields at one flow number.
 abbrev pub with_fields : Site → ℕ → ℕ → ℕ → ℕ → ℕ → Site
 with_fields s n state entry rate deadline =

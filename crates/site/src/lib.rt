@@ -2,7 +2,8 @@
 #![tactic(auto)]
 
 ghost use Rattle.std.specs.Prelude.{◌≡◌};
-ghost use Rattle.site.specs.Sites.{flow_count, empty_site, used, live, with_flow, without_flow};
+ghost use Rattle.site.specs.declared.Site.{Site};
+ghost use Rattle.site.specs.Sites.{flow_count, empty_site, used, live, with_states, with_flow, without_flow};
 
 // One value for one plan: node n's entries are at index n - 1, a flow's at its number, and whatever is not in use is 0.
 // A flow's state is 0 for a number not in use and 1 for a live flow.
@@ -80,35 +81,55 @@ impl Site {
         next
     }
 
-    // A number beyond the list is no flow's.
+    // A number that no flow can have is not live.
     pub fn is_live(&self, number: u8) -> bool
         ensures { result ≡ live self.now number }
     {
-        let n = number as usize;
-        if 63 < n {
-            return false;
-        }
-        self.states[n] == 1
+        live_in(&self.states, number)
     }
 
     // How many links the site has, whatever its count says.
     pub fn link_count(&self) -> usize
         ensures { result ≡ used self.now.links }
     {
-        self.links.min(63) as usize
+        link_count(self.links)
     }
 
-    // How many flows are live, which is told beside the number of links, in print and to hosts. A count of 8 bits is as wide as a state, so that the loop takes
-    // several states at a time.
+    // How many flows are live, which is told beside the number of links, in print and to hosts.
     pub fn flow_count(&self) -> u64
         ensures { result ≡ flow_count self.now }
     {
-        let mut count: u8 = 0;
-        for state in &self.states {
-            if *state == 1 {
-                count += 1;
-            }
-        }
-        count as u64
+        live_count(&self.states) as u64
     }
+}
+
+// Of lent states whether a flow is live. A number beyond the list is no flow's.
+pub fn live_in(states: &[u8], number: u8) -> bool
+    ensures { (s : Site) → result ≡ live (with_states s states.now) number }
+{
+    let n = number as usize;
+    if states.len() <= n {
+        return false;
+    }
+    states[n] == 1
+}
+
+// How many links a site has, whatever its count says.
+pub fn link_count(links: u8) -> usize
+    ensures { result ≡ used links }
+{
+    links.min(63) as usize
+}
+
+// How many flows are live. A count of 8 bits is as wide as a state, so that the loop takes several states at a time.
+pub fn live_count(states: &[u8; 64]) -> u8
+    ensures { (s : Site) → result ≡ flow_count (with_states s states.now) }
+{
+    let mut count: u8 = 0;
+    for state in states {
+        if *state == 1 {
+            count += 1;
+        }
+    }
+    count
 }

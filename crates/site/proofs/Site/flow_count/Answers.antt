@@ -1,24 +1,5 @@
-use borrow.Author.Rules.{rules}
-use mathlib.Core.Path.{◌≡◌}
-use lib.ListN.{length}
-use native.Mathlib.Omega.{arith}
-use Rattle.site.proofs.Laws.Flows.{counted_start, counted_live, counted_idle, counted_end}
+-- Right because the site has these states.
 use Rattle.site.proofs.Site.flow_count.Goals as goal
-use Rattle.site.proofs.Site.flow_count.Goals.{else-state-eq1, then-state-eq1}
-
-pub loop-state-init : goal.loop-state-init
-loop-state-init c = counted_start _
-
-pub overflow_add-count : goal.overflow_add-count
-overflow_add-count c = let a : length c.args.self.now.states ≡ 64 = search rules in omega (arith, c.loop-state.invariant.few)
-
-pub loop-state-preserved : goal.loop-state-preserved
-loop-state-preserved c =
-    let sofar = c.loop-state.invariant in
-    elim c.if-state-eq1.branch [
-      | then-state-eq1 w ↦ counted_live _ _ _ _ sofar w.if-state-eq1.true w.count-is
-      | else-state-eq1 w ↦ counted_idle _ _ _ _ sofar w.if-state-eq1.false w.count-is
-    ]
 
 pub returns : goal.returns
-returns c = let a : length c.args.self.now.states ≡ 64 = search rules in counted_end _ _ _ c.loop-state.invariant (omega arith)
+returns c = c.live_count.ensures c.args.self.now
