@@ -15,10 +15,10 @@ use site::Site;
 const VALUES: u64 = 1 << 56;
 
 // The number in the highest 8 bits, the place in the others. Every place that a call tells is below 2^56.
-pub fn refusal(refusal: Refusal) -> u64
-    ensures { result ≡ answer_of (refused (number_of refusal.fault) refusal.place) }
+pub fn refusal(number: u8, place: usize) -> u64
+    ensures { result ≡ answer_of (refused number place) }
 {
-    u64::from(refusal.fault.number()) * VALUES + refusal.place as u64 % VALUES
+    u64::from(number) * VALUES + place as u64 % VALUES
 }
 
 // A refusal at place 0, as most checks of a call have it.
@@ -26,7 +26,7 @@ pub fn refusal(refusal: Refusal) -> u64
 pub fn refusal_of(fault: Fault) -> u64
     ensures { told result ≡ refused (number_of fault) 0 }
 {
-    refusal(fault.at(0))
+    refusal(fault.number(), 0)
 }
 
 // What an accepted call gives, as a value of 64 bits, or its refusal.
@@ -35,7 +35,7 @@ pub fn answer(call: Result<u64, Refusal>) -> u64
 {
     match call {
         Ok(value) => value % VALUES,
-        Err(refused) => refusal(refused),
+        Err(refused) => refusal(refused.fault.number(), refused.place),
     }
 }
 
@@ -54,6 +54,6 @@ pub fn bound_of(site: &Site, number: u8) -> u64
 {
     match flow_checks::judge_number(&site.states, number) {
         Ok(()) => u64::from(bounds::delay_bound(site, number)),
-        Err(refused) => refusal(refused),
+        Err(refused) => answer(Err(refused)),
     }
 }

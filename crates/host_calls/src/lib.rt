@@ -5,7 +5,7 @@ ghost use Rattle.std.specs.Prelude.{◌≡◌};
 ghost use Rattle.host_answers.specs.Answers.{told};
 ghost use Rattle.host_calls.specs.Calls.{plan_read_from, schedule_from, start_from, slot_from, sender_from, bound_from};
 
-use host_answers::{answer, refusal, refusal_of};
+use host_answers::{answer, refusal_of};
 use rulings::Fault;
 
 // What refuses the reading is told as it is: by this call a host learns what is wrong with its bytes.
@@ -15,7 +15,7 @@ pub fn read_plan(plan: &[u8]) -> u64
 {
     match plan_reader::read_site(plan) {
         Ok(site) => host_answers::sizes(&site),
-        Err(reason) => refusal(reason),
+        Err(reason) => answer(Err(reason)),
     }
 }
 
@@ -30,7 +30,7 @@ pub fn schedule(plan: &[u8], out: &mut [u8]) -> u64
             &site.periods,
             out,
         ).map(|size| size as u64)),
-        Err(refused) => refusal(refused),
+        Err(refused) => answer(Err(refused)),
     }
 }
 

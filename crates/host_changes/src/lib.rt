@@ -8,7 +8,7 @@ ghost use Rattle.plan_writer.specs.Write.{plan_bytes, flow_place};
 ghost use Rattle.host_answers.specs.Answers.{told};
 ghost use Rattle.host_changes.specs.Changes.{rewritten, admit_from, release_from};
 
-use host_answers::{refusal, refusal_of};
+use host_answers::{answer, refusal_of};
 use rulings::Fault;
 use site::{Flow, Site};
 
@@ -91,7 +91,7 @@ pub fn admit(
     };
     match flow_checks::judge_flow(&site, &loads, flow) {
         Ok(()) => inserted(&site, plan, counters, flow, out),
-        Err(refused) => refusal(refused),
+        Err(refused) => answer(Err(refused)),
     }
 }
 
@@ -109,6 +109,6 @@ pub fn release(plan: &[u8], counters: &mut [u32], number: u8, out: &mut [u8]) ->
     };
     match flow_checks::judge_number(&site.states, number) {
         Ok(()) => dropped(&site, plan, counters, number, out),
-        Err(refused) => refusal(refused),
+        Err(refused) => answer(Err(refused)),
     }
 }

@@ -6,7 +6,7 @@ ghost use Rattle.slot_rule.specs.Assign.{assigned};
 ghost use Rattle.host_answers.specs.Answers.{told};
 ghost use Rattle.host_lists.specs.Lists.{schedule_read_from, schedule_written_from};
 
-use host_answers::{answer, refusal, refusal_of};
+use host_answers::{answer, refusal_of};
 use rulings::Fault;
 
 // Both lists are filled whole: what stood past the links is no part of a schedule. 1 comes first, so that a list that cannot hold a schedule is told before the
@@ -27,7 +27,7 @@ pub fn read_schedule(file: &[u8], offsets: &mut [u16], periods: &mut [u16]) -> u
             periods.copy_from_slice(&lengths);
             links as u64
         }
-        Err(refused) => refusal(refused),
+        Err(refused) => answer(Err(refused)),
     }
 }
 

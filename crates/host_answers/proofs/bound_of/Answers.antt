@@ -15,4 +15,4 @@ pub returns-in-Err : goal.returns-in-Err
 unfolding valued
 returns-in-Err c =
     let room = (number_tellable c.args.site.now c.args.number (omega arith)).near _ _ (sym (c.in-Err.ensures c.args.site.now)) in
-    rw (← (c.in-Err.ensures c.args.site.now)) (told_no _ _ _ c.refusal.ensures room.0 room.1)
+    rw (← (c.in-Err.ensures c.args.site.now)) (told_no _ _ _ c.answer.ensures room.0 room.1)

@@ -8,4 +8,4 @@ use Rattle.host_calls.proofs.read_plan.Goals as goal
 pub returns-in-Err : goal.returns-in-Err
 unfolding plan_read_from by_reading
 returns-in-Err c =
-    rw (← c.in-Err.ensures) (read_told _ (λ i. omega (arith, c.type_inv.plan i)) _ _ _ c.in-Err.ensures c.refusal.ensures)
+    rw (← c.in-Err.ensures) (read_told _ (λ i. omega (arith, c.type_inv.plan i)) _ _ _ c.in-Err.ensures c.answer.ensures)

@@ -26,4 +26,4 @@ returns-in-Ok c =
 pub returns-in-Err : goal.returns-in-Err
 unfolding schedule_from
 returns-in-Err c =
-    rw (read_told _ (λ i. omega (arith, c.type_inv.plan i)) _ _ _ c.in-Err.ensures c.refusal.ensures) (by_no _ _ _ _ _ (sym c.in-Err.ensures))
+    rw (read_told _ (λ i. omega (arith, c.type_inv.plan i)) _ _ _ c.in-Err.ensures c.answer-in-Err.ensures) (by_no _ _ _ _ _ (sym c.in-Err.ensures))

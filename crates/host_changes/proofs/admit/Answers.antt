@@ -27,5 +27,5 @@ returns-in-Err c =
     let known : (passes_of c.in-Ok.site ≡ true) × (plan_bytes c.in-Ok.site ≡ c.args.plan.now) = read_to _ (λ i. omega (arith, c.type_inv.plan i)) _ c.in-Ok.ensures.site in
     let operands : (c.args.number ≤ 255) × (c.args.entry ≤ 255) = (search rules, search rules) in
     let no = judged_by _ known.0 _ c.in-Ok.ensures.loads _ _ c.in-Err.ensures in
-    rw (flow_told _ _ _ _ _ no c.refusal.ensures operands.0 operands.1)
+    rw (flow_told _ _ _ _ _ no c.answer.ensures operands.0 operands.1)
     (admit_no _ known.0 _ c.if-counters-ne576.false _ _ _ _ no ∙ on_yes _ _ _ _ c.in-Ok.ensures.site ∙ of_length_lem _ _ _ _ c.if-counters-ne576.false)

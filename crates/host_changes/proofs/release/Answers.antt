@@ -24,5 +24,5 @@ unfolding release_from
 returns-in-Err c =
     let known : (passes_of c.in-Ok.site ≡ true) × (plan_bytes c.in-Ok.site ≡ c.args.plan.now) = read_to _ (λ i. omega (arith, c.type_inv.plan i)) _ c.in-Ok.ensures in
     let room = (number_tellable c.in-Ok.site c.args.number (omega arith)).near _ _ (sym (c.in-Err.ensures c.in-Ok.site)) in
-    rw (told_no _ _ _ c.refusal.ensures room.0 room.1)
+    rw (told_no _ _ _ c.answer.ensures room.0 room.1)
     (release_no _ known.0 _ c.if-counters-ne576.false _ _ _ _ (c.in-Err.ensures c.in-Ok.site) ∙ on_yes _ _ _ _ c.in-Ok.ensures ∙ of_length_lem _ _ _ _ c.if-counters-ne576.false)
