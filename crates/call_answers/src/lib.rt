@@ -17,7 +17,7 @@ pub fn put_lookup(page: &mut Page, found: Result<u8, Refusal>)
 {
     match found {
         Ok(child) => page.put_field(b"sender ", u64::from(child)),
-        Err(refusal) => put_refusal(page, refusal),
+        Err(refusal) => put_refusal(page, refusal.fault.number(), refusal.place),
     }
 }
 
@@ -65,7 +65,7 @@ fn put_written(page: &mut Page, written: Result<usize, Refusal>, bytes: &[u8])
 {
     match written {
         Ok(n) => put_front(page, bytes, n),
-        Err(refusal) => put_refusal(page, refusal),
+        Err(refusal) => put_refusal(page, refusal.fault.number(), refusal.place),
     }
 }
 

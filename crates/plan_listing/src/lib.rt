@@ -22,7 +22,7 @@ fn put_listing(page: &mut Page, bytes: &[u8])
 {
     match plan_reader::read_site(bytes) {
         Ok(site) => put_plan(page, &site),
-        Err(refusal) => put_refusal_line(page, refusal),
+        Err(refusal) => put_refusal_line(page, refusal.fault.number(), refusal.place),
     }
 }
 

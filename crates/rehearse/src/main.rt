@@ -82,7 +82,7 @@ fn rehearse_site(site: Site, counters: &mut [u32], input: Stdin) -> Site
 fn print_refusal(refusal: Refusal) {
     let mut line = [0u8; 64];
     let mut page = Page::over(&mut line);
-    report_lines::put_refusal_line(&mut page, refusal);
+    report_lines::put_refusal_line(&mut page, refusal.fault.number(), refusal.place);
     io::write_all(1, page.text());
 }
 

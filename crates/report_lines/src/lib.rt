@@ -3,7 +3,7 @@
 
 ghost use Rattle.std.specs.Prelude.{◌≡◌};
 ghost use Rattle.text.specs.Page.{Adds};
-ghost use Rattle.rulings.specs.Outcome.{outcome, number_of};
+ghost use Rattle.rulings.specs.Outcome.{outcome};
 ghost use Rattle.report_lines.specs.Lines.{refusal as refusal·, refusal_line, verdict_text, slots_text};
 ghost use Rattle.slices.specs.Written.{written};
 
@@ -12,11 +12,11 @@ use text::Page;
 
 // 01: number and place. The line stays open, since an answer of `rehearse` ends its own.
 #[tactic(auto, unfolding(text::specs::Put::puts, crate::specs::Lines::refusal))]
-pub fn put_refusal(page: &mut Page, refusal: Refusal)
-    ensures { Adds page.old page.new (refusal· (number_of refusal.fault) refusal.place) }
+pub fn put_refusal(page: &mut Page, number: u8, place: usize)
+    ensures { Adds page.old page.new (refusal· number place) }
 {
-    page.put_field(b"refused ", u64::from(refusal.fault.number()));
-    page.put_field(b" ", refusal.place as u64);
+    page.put_field(b"refused ", u64::from(number));
+    page.put_field(b" ", place as u64);
 }
 
 // An accepted call brings no figures, so one word stands for it.
@@ -26,16 +26,16 @@ pub fn put_verdict(page: &mut Page, verdict: Verdict)
 {
     match verdict {
         Ok(()) => page.put(b"accepted"),
-        Err(refusal) => put_refusal(page, refusal),
+        Err(refusal) => put_refusal(page, refusal.fault.number(), refusal.place),
     }
 }
 
 // 01: of a refused plan this line is all that is printed.
 #[tactic(auto, using(text::proofs::Laws::Put::puts_append), unfolding(text::specs::Put::puts))]
-pub fn put_refusal_line(page: &mut Page, refusal: Refusal)
-    ensures { Adds page.old page.new (refusal_line (number_of refusal.fault) refusal.place) }
+pub fn put_refusal_line(page: &mut Page, number: u8, place: usize)
+    ensures { Adds page.old page.new (refusal_line number place) }
 {
-    put_refusal(page, refusal);
+    put_refusal(page, number, place);
     page.put(b"\n");
 }
 

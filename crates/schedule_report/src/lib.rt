@@ -24,7 +24,7 @@ fn put_report(page: &mut Page, bytes: &[u8])
     let read = schedule_reader::read_schedule(bytes);
     match read.verdict {
         Ok(()) => put_schedule(page, &read.schedule),
-        Err(refusal) => put_refusal_line(page, refusal),
+        Err(refusal) => put_refusal_line(page, refusal.fault.number(), refusal.place),
     }
 }
 

@@ -31,7 +31,7 @@ fn put_report(page: &mut Page, bytes: &[u8])
 {
     match plan_reader::read_site(bytes) {
         Ok(site) => put_site(page, &site),
-        Err(refusal) => put_refusal_line(page, refusal),
+        Err(refusal) => put_refusal_line(page, refusal.fault.number(), refusal.place),
     }
 }
 

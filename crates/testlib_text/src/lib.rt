@@ -181,7 +181,7 @@ pub fn put_written(page: &mut Page, name: &[u8], written: Result<usize, Refusal>
     page.put(b" ");
     match written {
         Ok(size) => page.put_decimal(size as u64),
-        Err(refusal) => report_lines::put_refusal(page, refusal),
+        Err(refusal) => report_lines::put_refusal(page, refusal.fault.number(), refusal.place),
     }
 }
 

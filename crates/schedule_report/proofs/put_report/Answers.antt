@@ -10,4 +10,4 @@ returns-in-Ok c = rw (← read_given _ _ _ _ c.read_schedule-read.ensures, c.in-
 
 pub returns-in-Err : goal.returns-in-Err
 unfolding with_links schedule_lines
-returns-in-Err c = rw (← read_given _ _ _ _ c.read_schedule-read.ensures, c.in-Err.is) c.put_refusal_line.ensures
+returns-in-Err c = rw (← read_given _ _ _ _ c.read_schedule-read.ensures, c.in-Err.is) (rw c.number.ensures at c.put_refusal_line.ensures)
