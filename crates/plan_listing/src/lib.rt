@@ -27,14 +27,15 @@ fn put_listing(page: &mut Page, bytes: &[u8])
 }
 
 // No text is longer than 8,192 bytes: the law `listing_short`.
-#[tactic(auto, using(text::proofs::Laws::Put::shown_puts, crate::proofs::Laws::Short::listing_short), unfolding(crate::specs::Listing::listing_of))]
+#[tactic(auto, using(report_lines::proofs::Laws::Lines::all_taken, text::proofs::Laws::Put::shown_puts, crate::proofs::Laws::Short::listing_short), unfolding(crate::specs::Listing::listing_of))]
 pub fn list_plan(bytes: &[u8], out: &mut [u8]) -> Result<usize, Refusal>
     ensures { (outcome result, out.new) ≡ written (listing_of bytes.now) out.old }
 {
     let mut lines = [0u8; 8192];
     let mut page = Page::over(&mut lines);
     put_listing(&mut page, bytes);
-    deliver(page.text(), out)
+    let text = page.text();
+    deliver(text, text.len(), out)
 }
 
 #[tactic(auto, unfolding(text::specs::Put::puts, crate::specs::Listing::node_typed))]

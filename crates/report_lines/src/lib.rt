@@ -1,7 +1,7 @@
 // What printed texts have in common: refusals, verdicts and a link's slots, and a text handed to the slice of the caller.
 #![tactic(auto, unfolding(text::specs::Put::puts))]
 
-ghost use Rattle.std.specs.Prelude.{◌≡◌};
+ghost use Rattle.std.specs.Prelude.{◌≡◌, take};
 ghost use Rattle.text.specs.Page.{Adds};
 ghost use Rattle.rulings.specs.Outcome.{outcome};
 ghost use Rattle.report_lines.specs.Lines.{refusal as refusal·, refusal_line, verdict_text, slots_text};
@@ -39,17 +39,17 @@ pub fn put_refusal_line(page: &mut Page, number: u8, place: usize)
     page.put(b"\n");
 }
 
-// 01: a writer fills the front of the borrowed slice.
+// 01: a writer fills the front of the borrowed slice. What it writes here are the first `size` bytes of the text, all of them where it has fewer.
 #[tactic(auto, unfolding(slices::specs::Written::written))]
-pub fn deliver(text: &[u8], out: &mut [u8]) -> Result<usize, Refusal>
-    ensures { (outcome result, out.new) ≡ written text.now out.old }
+pub fn deliver(text: &[u8], size: usize, out: &mut [u8]) -> Result<usize, Refusal>
+    ensures { (outcome result, out.new) ≡ written (take size text.now) out.old }
 {
-    let size = text.len();
-    if out.len() < size {
+    let front = size.min(text.len());
+    if out.len() < front {
         return Err(Fault::WrongLength.at(0));
     }
-    out[..size].copy_from_slice(text);
-    Ok(size)
+    out[..front].copy_from_slice(&text[..front]);
+    Ok(front)
 }
 
 pub fn put_slots(page: &mut Page, offset: u16, period: u16)

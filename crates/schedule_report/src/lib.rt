@@ -29,14 +29,15 @@ fn put_report(page: &mut Page, bytes: &[u8])
 }
 
 // No text is longer than 8,192 bytes: the law `schedule_report_short`.
-#[tactic(auto, using(text::proofs::Laws::Put::shown_puts, crate::proofs::Laws::Short::schedule_report_short), unfolding(crate::specs::Report::schedule_report_of))]
+#[tactic(auto, using(report_lines::proofs::Laws::Lines::all_taken, text::proofs::Laws::Put::shown_puts, crate::proofs::Laws::Short::schedule_report_short), unfolding(crate::specs::Report::schedule_report_of))]
 pub fn report_schedule(bytes: &[u8], out: &mut [u8]) -> Result<usize, Refusal>
     ensures { (outcome result, out.new) ≡ written (schedule_report_of bytes.now) out.old }
 {
     let mut lines = [0u8; 8192];
     let mut page = Page::over(&mut lines);
     put_report(&mut page, bytes);
-    deliver(page.text(), out)
+    let text = page.text();
+    deliver(text, text.len(), out)
 }
 
 #[tactic(auto, unfolding(text::specs::Put::puts, crate::specs::Report::slots_line))]
