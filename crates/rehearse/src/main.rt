@@ -79,11 +79,13 @@ fn rehearse_site(site: Site, counters: &mut [u32], input: Stdin) -> Site
     last.site
 }
 
+// In two writes: a pipe that has room for the refusal and not for the line's end gets the refusal.
 fn print_refusal(refusal: Refusal) {
     let mut line = [0u8; 64];
     let mut page = Page::over(&mut line);
-    report_lines::put_refusal_line(&mut page, refusal.fault.number(), refusal.place);
+    report_lines::put_refusal(&mut page, refusal.fault.number(), refusal.place);
     io::write_all(1, page.text());
+    io::write_all(1, b"\n");
 }
 
 fn print_counts(site: &Site) {

@@ -35,8 +35,9 @@ fn put_accepted(page: &mut Page, bytes: &[u8], site: Site) {
 }
 
 fn put_plan(page: &mut Page, bytes: &[u8]) {
-    match plan_reader::read_site(bytes) {
-        Ok(site) => put_accepted(page, bytes, site),
+    let read = plan_reader::read_plan(bytes);
+    match read.verdict {
+        Ok(()) => put_accepted(page, bytes, read.site),
         Err(refusal) => report_lines::put_refusal(page, refusal.fault.number(), refusal.place),
     }
 }
