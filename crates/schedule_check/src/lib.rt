@@ -1,7 +1,7 @@
 // Schedules by value, and check 14 of one that is handed in.
 #![tactic(auto)]
 
-ghost use Rattle.std.specs.Prelude.{◌≡◌, take, drop};
+ghost use Rattle.std.specs.Prelude.{◌≡◌, ◌≤◌, take, drop};
 ghost use Rattle.std.specs.List.{list_any, zip};
 ghost use Rattle.schedule_check.specs.Schedules.{of_lists, without_links, bad_slots};
 ghost use Rattle.schedule_check.specs.Check.{in_use, schedule_passes};
@@ -26,55 +26,52 @@ impl Schedule {
     }
 
     // 02, U1: whether some schedule file reads to this schedule.
-    #[tactic(auto, unfolding(crate::specs::Check::schedule_passes))]
     pub fn passes(&self) -> bool
         ensures { result ≡ schedule_passes self.now }
     {
-        if 63 < self.links {
-            return false;
-        }
-        !self.slots_bad() && !self.rest_used()
-    }
-
-    // Whether some link's slots are not within their limits.
-    fn slots_bad(&self) -> bool
-        ensures { result ≡ list_any (λ p. bad_slots p.0 p.1) (take self.now.links (zip self.now.offsets self.now.periods)) }
-    {
-        self.offsets
-            .iter()
-            .zip(&self.periods)
-            .take(self.links as usize)
-            .any(|(offset, period)| bad_slots(*offset, *period))
-    }
-
-    // Whether something stands past the last link.
-    fn rest_used(&self) -> bool
-        ensures { result ≡ list_any (λ p. in_use p.0 p.1) (drop self.now.links (zip self.now.offsets self.now.periods)) }
-    {
-        self.offsets
-            .iter()
-            .zip(&self.periods)
-            .skip(self.links as usize)
-            .any(|(offset, period)| in_use(*offset, *period))
+        lists_pass(self.links, &self.offsets, &self.periods)
     }
 }
 
-// A period of 0 has no offset below it, so two tests do.
+// A period of 0 has no offset below it, so two tests do. Neither waits for the other, as those of `in_use`: a test that might be left out is a jump in a loop.
 #[tactic(auto, using(crate::proofs::Laws::Slots::slots_many, crate::proofs::Laws::Slots::slots_rest))]
 pub fn bad_slots(offset: u16, period: u16) -> bool
     ensures { result ≡ bad_slots offset period }
 {
-    1024 < period || period <= offset
+    (1024 < period) | (period <= offset)
+}
+
+// Whether some link's slots are not within their limits. No entry ends the loop, nor that of `rest_used`, so that either takes several entries at a time.
+fn slots_bad(links: u8, offsets: &[u16; 63], periods: &[u16; 63]) -> bool
+    requires { links ≤ 63 }
+    ensures { result ≡ list_any (λ p. bad_slots p.0 p.1) (take links (zip offsets.now periods.now)) }
+{
+    let mut bad = false;
+    for i in 0..links as usize {
+        bad |= bad_slots(offsets[i], periods[i]);
+    }
+    bad
 }
 
 #[tactic(auto, unfolding(crate::specs::Check::in_use))]
 fn in_use(offset: u16, period: u16) -> bool
     ensures { result ≡ in_use offset period }
 {
-    offset != 0 || period != 0
+    (offset != 0) | (period != 0)
 }
 
-// The same of lists that are lent. One that has not 63 entries is no schedule's.
+// Whether something stands past the last link.
+fn rest_used(links: u8, offsets: &[u16; 63], periods: &[u16; 63]) -> bool
+    ensures { result ≡ list_any (λ p. in_use p.0 p.1) (drop links (zip offsets.now periods.now)) }
+{
+    let mut used = false;
+    for i in links as usize..63 {
+        used |= in_use(offsets[i], periods[i]);
+    }
+    used
+}
+
+// The same as `passes` of lists that are lent. One that has not 63 entries is no schedule's.
 #[tactic(auto, unfolding(crate::specs::Check::schedule_passes))]
 pub fn lists_pass(links: u8, offsets: &[u16], periods: &[u16]) -> bool
     ensures { result ≡ schedule_passes (of_lists links offsets.now periods.now) }
@@ -82,10 +79,8 @@ pub fn lists_pass(links: u8, offsets: &[u16], periods: &[u16]) -> bool
     let (Some(offsets), Some(periods)) = (offsets.as_array(), periods.as_array()) else {
         return false;
     };
-    let schedule = Schedule {
-        links,
-        offsets: *offsets,
-        periods: *periods,
-    };
-    schedule.passes()
+    if 63 < links {
+        return false;
+    }
+    !slots_bad(links, offsets, periods) && !rest_used(links, offsets, periods)
 }

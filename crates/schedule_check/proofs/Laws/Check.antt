@@ -1,11 +1,11 @@
 -- The tests of 14, one law for each answer, and what they say of all entries.
 use Prim.Native.Nat.{ℕ, zero, suc, ◌+◌, ◌-◌, ◌≤◌, ◌<◌}
 use mathlib.Core.Path.{◌≡◌, refl, sym, ◌∙◌, ap}
-use mathlib.Core.Bool.{Bool, true, false, cond, not, ◌||◌, false≢true, and-eq-true_iff}
+use mathlib.Core.Bool.{Bool, true, false, cond, not, ◌||◌, or-true, false≢true, and-eq-true_iff}
 use mathlib.Core.List.{List}
 use mathlib.Core.Logic.{⊎_elim}
 use lib.Dec.{eqb}
-use lib.ListN.{length, get_or, take, drop, length-drop, get_or-eq_default}
+use lib.ListN.{length, get_or, take, drop, length-drop, drop_of_length-le, get_or-eq_default}
 use lib.Seq.{drop-cons, take_all}
 use native.Mathlib.Numerals.{add-one}
 use Rattle.std.proofs.lemmas.Slice.Zip.{length-zip, get_or-zip}
@@ -13,7 +13,7 @@ use Rattle.std.specs.List.{list_any, zip}
 use borrow.Author.Tests.{le-leb, eq-eqb, eqb-true, not-false}
 use native.Mathlib.Omega.{arith}
 use Rattle.lists.specs.Search.{any}
-use Rattle.lists.proofs.Laws.Search.{lt_or_le, any_none, any_some}
+use Rattle.lists.proofs.Laws.Search.{lt_or_le, any_hit, any_miss, any_end, any_none, any_some}
 use Rattle.schedule_check.specs.declared.Schedule.{Schedule}
 use Rattle.schedule_check.specs.Schedules.{bad_slots}
 use Rattle.schedule_check.specs.Check.{in_use, bad_at, used_at, schedule_passes}
@@ -56,6 +56,29 @@ module _ (f : ℕ → ℕ → Bool) where
         go true ih = refl
         go false ih = ih
 
+-- A loop that looks at every number below n: `seen` says whether one before i had the test, and `whole` whether one has it at all.
+pub record Seen (p : ℕ → Bool) (n i : ℕ) (seen whole : Bool) : Type 0 where
+  pub are : whole ≡ seen || any p (n - i) i
+
+module _ (p : ℕ → Bool) (n i : ℕ) (seen whole : Bool) (w : Seen p n i seen whole) where
+  or_none : (t : Bool) → t || false ≡ t
+  or_none true = refl
+  or_none false = refl
+
+  seen_hit : i < n → p i ≡ true → Seen p n (i + 1) true whole
+  seen_hit l e = record { are = w.are ∙ ap (λ (t : Bool). seen || t) (any_hit p n i l e) ∙ or-true seen }
+
+  seen_miss : i < n → p i ≡ false → Seen p n (i + 1) seen whole
+  seen_miss l e = record { are = w.are ∙ ap (λ (t : Bool). seen || t) (any_miss p n i l e) }
+
+  -- t is the test of i.
+  pub seen_next : i < n → (t : Bool) → t ≡ p i → Seen p n (i + 1) (seen || t) whole
+  seen_next l true e = rw (or-true seen) (seen_hit l (sym e))
+  seen_next l false e = rw (or_none seen) (seen_miss l (sym e))
+
+  pub seen_end : n ≤ i → seen ≡ whole
+  seen_end l = sym (w.are ∙ ap (λ (t : Bool). seen || t) (any_end p n i l) ∙ or_none seen)
+
 -- No number has the test where none can be found that has.
 any_absent : (p : ℕ → Bool) (r k : ℕ) → ((m : ℕ) → k ≤ m → m < k + r → p m ≡ false) → any p r k ≡ false
 any_absent p r k none = go (any p r k) refl
@@ -72,27 +95,31 @@ module _ (s : Schedule) where
   used = used_at s.offsets s.periods
 
   -- The two walks of the check on lists of 63 entries, and its answers.
-  module _ (offsets_long : length s.offsets ≡ 63) (periods_long : length s.periods ≡ 63) (few : s.links ≤ 63) where
-    slots_walked : list_any (λ p. bad_slots p.0 p.1) (take s.links (zip s.offsets s.periods)) ≡ any bad s.links 0
-    slots_walked = sym (any_pairs bad_slots s.offsets s.periods s.links 0 (omega arith) (omega arith))
+  module _ (offsets_long : length s.offsets ≡ 63) (periods_long : length s.periods ≡ 63) where
+    pub slots_walked : s.links ≤ 63 → list_any (λ p. bad_slots p.0 p.1) (take s.links (zip s.offsets s.periods)) ≡ any bad s.links 0
+    slots_walked few = sym (any_pairs bad_slots s.offsets s.periods s.links 0 (omega arith) (omega arith))
 
-    rest_walked : list_any (λ p. in_use p.0 p.1) (drop s.links (zip s.offsets s.periods)) ≡ any used (63 - s.links) s.links
+    pub rest_walked : list_any (λ p. in_use p.0 p.1) (drop s.links (zip s.offsets s.periods)) ≡ any used (63 - s.links) s.links
     rest_walked =
         let long : length (drop s.links (zip s.offsets s.periods)) ≤ 63 - s.links =
         omega (arith, length-drop s.links (zip s.offsets s.periods), length-zip s.offsets s.periods) in
-        sym (any_pairs in_use s.offsets s.periods (63 - s.links) s.links (omega arith) (omega arith)
-        ∙ ap (list_any (pair_test in_use)) (take_all (63 - s.links) (drop s.links (zip s.offsets s.periods)) long))
+        ⊎_elim
+        (λ (l : 63 < s.links). ap (list_any (pair_test in_use)) (drop_of_length-le (zip s.offsets s.periods) {i = s.links} (omega (arith, length-zip s.offsets s.periods)))
+        ∙ sym (any_end used 63 s.links (omega arith)))
+        (λ (few : s.links ≤ 63). sym (any_pairs in_use s.offsets s.periods (63 - s.links) s.links (omega arith) (omega arith)
+        ∙ ap (list_any (pair_test in_use)) (take_all (63 - s.links) (drop s.links (zip s.offsets s.periods)) long)))
+        (lt_or_le 63 s.links)
 
     -- r stands for what the first walk finds.
-    module _ (r : Bool) (slots : r ≡ list_any (λ p. bad_slots p.0 p.1) (take s.links (zip s.offsets s.periods))) where
+    module _ (few : s.links ≤ 63) (r : Bool) (slots : r ≡ list_any (λ p. bad_slots p.0 p.1) (take s.links (zip s.offsets s.periods))) where
       pub passes_bad : r ≡ true → false ≡ schedule_passes s
       unfolding schedule_passes
-      passes_bad e = rw (eq-eqb _ _ offsets_long, eq-eqb _ _ periods_long, le-leb _ _ few, ← slots_walked, ← slots, e)
+      passes_bad e = rw (eq-eqb _ _ offsets_long, eq-eqb _ _ periods_long, le-leb _ _ few, ← slots_walked few, ← slots, e)
 
       pub passes_rest : r ≡ false → (u : Bool) → u ≡ list_any (λ p. in_use p.0 p.1) (drop s.links (zip s.offsets s.periods)) → not u ≡ schedule_passes s
       unfolding schedule_passes
       passes_rest e u rest =
-          rw (eq-eqb _ _ offsets_long, eq-eqb _ _ periods_long, le-leb _ _ few, ← slots_walked, ← rest_walked, ← slots, ← rest, e)
+          rw (eq-eqb _ _ offsets_long, eq-eqb _ _ periods_long, le-leb _ _ few, ← slots_walked few, ← rest_walked, ← slots, ← rest, e)
 
   -- What they say of all entries.
   pub all_well : length s.offsets ≡ 63 → length s.periods ≡ 63 → s.links ≤ 63 → any bad s.links 0 ≡ false → any used (63 - s.links) s.links ≡ false
