@@ -24,31 +24,37 @@ fn link_command(node: u8, offset: u16, period: u16) -> [u8; 6]
     [LINK, node, offset_low, offset_high, period_low, period_high]
 }
 
-// All links, from the start on; answers the index after them.
-fn put_links(schedule: &Schedule, out: &mut [u8]) -> usize
-    requires { (schedule.now.links ≤ 63) × (length (joined (link_bytes schedule.now) schedule.now.links 0) ≤ length out.old) }
-    ensures { (out.new ≡ sets out.old 0 (joined (link_bytes schedule.now) schedule.now.links 0))
-        × (result ≡ length (joined (link_bytes schedule.now) schedule.now.links 0)) }
+// All links, from the start on; answers the index after them. The index goes on by the size of a LINK, so that the test of room is made once for all.
+fn put_links(links: u8, offsets: &[u16; 63], periods: &[u16; 63], out: &mut [u8]) -> usize
+    requires { (links ≤ 63) × (length (joined (link_bytes (of_lists links offsets.now periods.now)) links 0) ≤ length out.old) }
+    ensures { (out.new ≡ sets out.old 0 (joined (link_bytes (of_lists links offsets.now periods.now)) links 0))
+        × (result ≡ length (joined (link_bytes (of_lists links offsets.now periods.now)) links 0)) }
 {
     let mut at = 0;
-    for i in 0..schedule.links as usize {
-        let command = link_command(i as u8 + 1, schedule.offsets[i], schedule.periods[i]);
-        at = slices::put(out, at, &command);
+    for i in 0..links as usize {
+        let command = link_command(i as u8 + 1, offsets[i], periods[i]);
+        slices::put(out, at, &command);
+        at += format::schedule_size(LINK);
     }
     at
 }
 
-// The schedule, which passed the other checks.
-#[tactic(auto, using(crate::proofs::Laws::Write::links_long, crate::proofs::Laws::Write::schedule_long, crate::proofs::Laws::Write::schedule_stored), unfolding(format::specs::Commands::schedule_size, slices::specs::Written::written))]
-fn put_schedule(schedule: &Schedule, out: &mut [u8]) -> Result<usize, Refusal>
-    requires { schedule.now.links ≤ 63 }
-    ensures { (outcome result, out.new) ≡ written (schedule_bytes schedule.now) out.old }
+// The schedule with these lists, which passed the other checks.
+#[tactic(auto, unfolding(format::specs::Commands::schedule_size))]
+fn put_schedule(
+    links: u8,
+    offsets: &[u16; 63],
+    periods: &[u16; 63],
+    out: &mut [u8],
+) -> Result<usize, Refusal>
+    requires { links ≤ 63 }
+    ensures { (outcome result, out.new) ≡ written (schedule_bytes (of_lists links offsets.now periods.now)) out.old }
 {
-    let size = format::schedule_size(LINK) * schedule.links as usize + 1;
+    let size = format::schedule_size(LINK) * links as usize + 1;
     if out.len() < size {
         return Err(Fault::WrongLength.at(0));
     }
-    let end = put_links(schedule, out);
+    let end = put_links(links, offsets, periods, out);
     out[end] = END;
     Ok(size)
 }
@@ -68,12 +74,7 @@ pub fn encode_lists(
     if 63 < links {
         return Err(Fault::NoSite.at(0));
     }
-    let schedule = Schedule {
-        links,
-        offsets: *offsets,
-        periods: *periods,
-    };
-    put_schedule(&schedule, out)
+    put_schedule(links, offsets, periods, out)
 }
 
 // 01: 14 of the site first, the slice last.
@@ -87,18 +88,7 @@ pub fn write_schedule(site: Site, out: &mut [u8]) -> Result<usize, Refusal>
     encode_lists(site.links, &site.offsets, &site.periods, out)
 }
 
-// 02, U1: a schedule by itself has a check 14 of its own.
-#[tactic(auto, unfolding(slices::specs::Written::handed, schedule_check::specs::Check::schedule_passes))]
-pub fn write_schedule_of(schedule: Schedule, out: &mut [u8]) -> Result<usize, Refusal>
-    ensures { (outcome result, out.new) ≡ schedule_written schedule out.old }
-{
-    if !schedule.passes() {
-        return Err(Fault::NoSite.at(0));
-    }
-    put_schedule(&schedule, out)
-}
-
-// The same of lists that are lent. One that has not 63 entries is no schedule's.
+// 02, U1: a schedule by itself has a check 14 of its own. A list that has not 63 entries is no schedule's.
 #[tactic(auto, unfolding(slices::specs::Written::handed, schedule_check::specs::Check::schedule_passes))]
 pub fn write_lists(
     links: u8,
@@ -108,13 +98,18 @@ pub fn write_lists(
 ) -> Result<usize, Refusal>
     ensures { (outcome result, out.new) ≡ schedule_written (of_lists links offsets.now periods.now) out.old }
 {
+    if !schedule_check::lists_pass(links, offsets, periods) {
+        return Err(Fault::NoSite.at(0));
+    }
     let (Some(offsets), Some(periods)) = (offsets.as_array(), periods.as_array()) else {
         return Err(Fault::NoSite.at(0));
     };
-    let schedule = Schedule {
-        links,
-        offsets: *offsets,
-        periods: *periods,
-    };
-    write_schedule_of(schedule, out)
+    put_schedule(links, offsets, periods, out)
+}
+
+// The same of a schedule by value.
+pub fn write_schedule_of(schedule: Schedule, out: &mut [u8]) -> Result<usize, Refusal>
+    ensures { (outcome result, out.new) ≡ schedule_written schedule out.old }
+{
+    write_lists(schedule.links, &schedule.offsets, &schedule.periods, out)
 }

@@ -44,12 +44,13 @@ module _ (s : Schedule) where
   unfolding schedule_size
   schedule_long = sym (schedule_size_lem s 6 refl)
 
+  pub schedule_sets : (out a : List ℕ) (end : ℕ) → a ≡ sets out 0 (joined (link_bytes s) s.links 0)
+      → end ≡ length (joined (link_bytes s) s.links 0) → set a end 255 ≡ sets out 0 (schedule_bytes s)
+  unfolding schedule_bytes
+  schedule_sets out a end p e = rw (sets_append out 0 (joined (link_bytes s) s.links 0) (255 ∷ []), zero-add, ← p, ← e)
+
   pub schedule_stored : (out a : List ℕ) (end : ℕ) → 6 * s.links + 1 ≤ length out → a ≡ sets out 0 (joined (link_bytes s) s.links 0) → end ≡ 6 * s.links
       → set a end 255 ≡ schedule_bytes s ++ drop (6 * s.links + 1) out
-  unfolding schedule_bytes
   schedule_stored out a end room p e =
-      let links = joined (link_bytes s) s.links 0 in
-      let whole : set a end 255 ≡ sets out 0 (links ++ (255 ∷ [])) =
-      rw (sets_append out 0 links (255 ∷ []), zero-add, ← p, links_long, ← e) in
-      let long : 0 + length (links ++ (255 ∷ [])) ≡ 6 * s.links + 1 = omega (arith, length-append links (255 ∷ []), links_long) in
-      whole ∙ sets-eq (links ++ (255 ∷ [])) out 0 (omega arith) ∙ rw long
+      let long : 0 + length (schedule_bytes s) ≡ 6 * s.links + 1 = omega (arith, schedule_long) in
+      schedule_sets out a end p (e ∙ sym links_long) ∙ sets-eq (schedule_bytes s) out 0 (omega arith) ∙ rw long
