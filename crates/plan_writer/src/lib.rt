@@ -42,7 +42,8 @@ pub fn flow_command(number: u8, entry: u8, rate: u8, deadline: u16) -> [u8; 6]
     ]
 }
 
-// All nodes, from the start on; answers the index after them.
+// All nodes, from the start on; answers the index after them. The index goes on by the size of a NODE, and that of `put_flows` by the size of a FLOW: constants, so
+// that less is to be tested for the next one.
 fn put_nodes(site: &Site, out: &mut [u8]) -> usize
     requires few { site.now.links ≤ 63 }
     requires room { length (joined (node_bytes site.now) site.now.links 0) ≤ length out.old }
@@ -52,7 +53,8 @@ fn put_nodes(site: &Site, out: &mut [u8]) -> usize
     let mut at = 0;
     for i in 0..site.links as usize {
         let command = node_command(site.parents[i], site.capacities[i], site.gaps[i]);
-        at = slices::put(out, at, &command);
+        slices::put(out, at, &command);
+        at += format::size(NODE);
     }
     at
 }
@@ -68,7 +70,8 @@ fn put_flows(site: &Site, start: usize, out: &mut [u8]) -> usize
         if site.is_live(number) {
             let n = number as usize;
             let command = flow_command(number, site.entries[n], site.rates[n], site.deadlines[n]);
-            at = slices::put(out, at, &command);
+            slices::put(out, at, &command);
+            at += format::size(FLOW);
         }
     }
     at

@@ -64,12 +64,17 @@ flows_below s (suc n) =
 
 -- The next item, put where the ones before it end.
 module _ (bytes : ℕ → List ℕ) (n start : ℕ) (d : List ℕ) (room : start + length (joined bytes n 0) ≤ length d) where
+  pub stored_sized : (i at : ℕ) (out : List ℕ) → Stored bytes n start d i at out → i < n → (b : List ℕ) → b ≡ bytes i
+      → (r : ℕ) (new : List ℕ) → (r, new) ≡ put (at, out) b → (m : ℕ) → m ≡ at + length b → Stored bytes n start d (i + 1) m new
+  stored_sized i at out s l b e r new q m k =
+      let fits : at + length b ≤ length out = omega (arith, s.long, stored_room bytes n start d i at out s b l e) in
+      stored_more bytes n start d i at out s b new m l e (put_sets at r out b new fits q) k
+
   pub stored_put : (i at : ℕ) (out : List ℕ) → Stored bytes n start d i at out → i < n → (b : List ℕ) → b ≡ bytes i
       → (m : ℕ) (new : List ℕ) → (m, new) ≡ put (at, out) b → Stored bytes n start d (i + 1) m new
   stored_put i at out s l b e m new q =
       let fits : at + length b ≤ length out = omega (arith, s.long, stored_room bytes n start d i at out s b l e) in
-      stored_more bytes n start d i at out s b new m l e (put_sets at m out b new fits q)
-      (ap (λ (p : ℕ × List ℕ). p.0) (q ∙ put_room at out b fits))
+      stored_sized i at out s l b e m new q m (ap (λ (p : ℕ × List ℕ). p.0) (q ∙ put_room at out b fits))
 
   -- A number that has no bytes is passed by.
   pub stored_none : (i at : ℕ) (out : List ℕ) → Stored bytes n start d i at out → i < n → [] ≡ bytes i → Stored bytes n start d (i + 1) at out
