@@ -33,16 +33,22 @@ fn add_widths(site: &Site, entry: u8, rate: u8, loads: &mut [u32; 63]) -> u32
     }
 }
 
-// The widths on all links and the first late flow. It goes up the route of each live flow once.
+// The widths on all links and the first late flow. It goes up the route of each live flow once, and ends with the last of them.
+#[tactic(auto, using(reservations::proofs::Laws::Reservations::reserving))]
 fn reserve(site: &Site) -> ([u32; 63], Option<usize>)
     ensures { ReservedAs site.now result.0 result.1 }
 {
     let mut loads = [0; 63];
     let mut late = None;
-    for (n, state) in site.states.iter().enumerate() {
-        if *state == 1 {
+    let mut left = site.flow_count();
+    for n in 0..64 {
+        if left == 0 {
+            break;
+        }
+        if site.states[n] == 1 {
             let sum = add_widths(site, site.entries[n], site.rates[n], &mut loads);
             late = first_late(late, n, site.deadlines[n], sum);
+            left -= 1;
         }
     }
     (loads, late)

@@ -68,18 +68,23 @@ fn move_packets(cells: &mut [u32], site: &Site, sending: &[u16; 63], flow: usize
     }
 }
 
-// One slot of every live flow. The nine cells of each are lent on from where they stand.
+// One slot of every live flow, up to the last of them. The nine cells of each are lent on from where they stand.
 #[tactic(auto, using(crate::proofs::Laws::Moves::stepped_rules))]
 fn move_all(site: &Site, counters: &mut [u32], arrivals: &[u16], number: u32)
     requires { AllMovable site.now.states counters.old arrivals.now }
     ensures { counters.new ≡ joined (cells_after own site.now counters.old arrivals.now number) 64 0 }
 {
     let sending = periods_sending(site, number);
+    let mut left = site.flow_count();
     for n in 0..64 {
+        if left == 0 {
+            break;
+        }
         if site.states[n] == 1 {
             let at = 9 * n;
             let end = at + 9;
             move_packets(&mut counters[at..end], site, &sending, n, arrivals[n]);
+            left -= 1;
         }
     }
 }

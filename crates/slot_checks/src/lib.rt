@@ -18,19 +18,24 @@ fn sum(cells: &[u32]) -> u64
     cells.iter().map(|cell| u64::from(*cell)).sum()
 }
 
-// 01, 19: the lowest live number whose nine cells and arrival sum to more than 32 bits can hold.
+// 01, 19: the lowest live number whose nine cells and arrival sum to more than 32 bits can hold. It ends with the last live flow.
 #[tactic(auto, using(crate::proofs::Laws::Answers::overflow_rules), unfolding(crate::specs::Checks::overflows, site::specs::Sites::live, counters::specs::Blocks::cells_of))]
 fn first_overflow(site: &Site, counters: &[u32], arrivals: &[u16]) -> Option<usize>
     requires { (length counters.now ≡ 576) × (length arrivals.now ≡ 64) }
     ensures { result ≡ some_below 64 (first_overflow site.now counters.now arrivals.now) }
 {
+    let mut left = site.flow_count();
     for n in 0..64 {
+        if left == 0 {
+            break;
+        }
         if site.states[n] == 1 {
             let at = 9 * n;
             let end = at + 9;
             if u64::from(u32::MAX) < sum(&counters[at..end]) + u64::from(arrivals[n]) {
                 return Some(n);
             }
+            left -= 1;
         }
     }
     None

@@ -18,6 +18,7 @@ use Rattle.lists.proofs.Laws.Items.{joined_more}
 use Rattle.lists.proofs.Laws.Listed.{get_or_replicated}
 use Rattle.site.specs.declared.Site.{Site}
 use Rattle.site.specs.Sites.{used, live}
+use Rattle.site.proofs.Laws.Flows.{none_left}
 use Rattle.tree.specs.Tree.{of_link, up, route}
 use Rattle.reservations.specs.Reservations.{periods_judged, route_of, width_at}
 use Rattle.reservations.proofs.Laws.Reservations.{width_le}
@@ -282,12 +283,20 @@ module _ (s : Site) (t : ℕ) (cs₀ xs cs : List ℕ) (n : ℕ) (w : Kept cs₀
       let size : 9 * n + 9 - 9 * n ≡ 9 = omega arith in
       record { done = rw (end, take-add (9 * n) 9 cs, v.done, joined_more (cells_after own s cs₀ xs t) n, off, ← cells_lent cs₀ cs n w l, size) }
 
--- The 64 flows have 576 cells, and no more.
-pub stepped_end : (s : Site) (t : ℕ) (cs₀ xs cs : List ℕ) (n : ℕ) → Kept cs₀ cs n → Stepped s t cs₀ xs cs n → n ≡ 64
-    → cs ≡ joined (cells_after own s cs₀ xs t) 64 0
-stepped_end s t cs₀ xs cs n w v end = sym (take_all 576 cs (omega (arith, w.long))) ∙ rw end at v.done
+-- Where no number from n on is live, that is all.
+module _ (s : Site) (t : ℕ) (cs₀ xs cs : List ℕ) where
+  stepped_rest : (r n : ℕ) → n + r ≡ 64 → Kept cs₀ cs n → Stepped s t cs₀ xs cs n → ((k : ℕ) → n ≤ k → k < 64 → live s k ≡ false)
+      → cs ≡ joined (cells_after own s cs₀ xs t) 64 0
+  stepped_rest zero n e w v none = let end : n ≡ 64 = omega arith in sym (take_all 576 cs (omega (arith, w.long))) ∙ rw end at v.done
+  stepped_rest (suc r) n e w v none =
+      stepped_rest r (n + 1) (omega arith) (kept_dead cs₀ cs n w (omega arith))
+      (stepped_dead s t cs₀ xs cs n w v (omega arith) (none n (omega arith) (omega arith))) (λ k lo hi. none k (omega arith) hi)
+
+  pub stepped_end : (n : ℕ) → Kept cs₀ cs n → Stepped s t cs₀ xs cs n → ((k : ℕ) → n ≤ k → k < 64 → live s k ≡ false)
+      → cs ≡ joined (cells_after own s cs₀ xs t) 64 0
+  stepped_end n w = stepped_rest (64 - n) n (omega (arith, w.most)) w
 
 -- What the functions of src/lib.rt are proved by.
 pub ruleset moving_rules = (get_or_total, moving_fits, width_le)
 
-pub ruleset stepped_rules = (kept_start, kept_ready, stepped_start, stepped_end)
+pub ruleset stepped_rules = (kept_start, kept_ready, stepped_start, stepped_end, none_left)

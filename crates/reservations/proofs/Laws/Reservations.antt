@@ -28,7 +28,7 @@ use Rattle.reservations.specs.Inner.{carried, found_with, first_full, ReservedAs
 use Rattle.tree.proofs.Laws.Tree.{link_in, way_up, route_up, route_end, route_root, route_within, up_within}
 use Rattle.lists.proofs.Laws.Listed.{length_listed, get_or_listed}
 use Rattle.lists.proofs.Laws.Sums.{sum_more, sum_except}
-use Rattle.site.proofs.Laws.Flows.{live_here}
+use Rattle.site.proofs.Laws.Flows.{Left, none_left, live_here}
 
 -- The sum over a route, link by link: the node's link and the rest of the way up.
 module _ (xs p : List ℕ) (n u : ℕ) where
@@ -187,9 +187,9 @@ module _ (s : Site) where
           go None false j e = rw (← first_miss (late s) 64 n few j) e
 
   -- With all flows done the loads are those of the site, and no late flow is to come.
-  pub judging_end : (loads : List ℕ) (found : Option ℕ) → Judging s 64 loads found → ReservedAs s loads found
+  judging_whole : (loads : List ℕ) (found : Option ℕ) → Judging s 64 loads found → ReservedAs s loads found
   unfolding load loads_of
-  judging_end loads found w = record {
+  judging_whole loads found w = record {
     sums = ext_get_or 0 loads _ (w.long ∙ sym (length_listed (λ i. load s (i + 1)) 63 0))
         (λ k l. w.each k (omega (arith, w.long)) ∙ sym (get_or_listed (λ i. load s (i + 1)) 63 0 k (omega (arith, w.long)) ∙ rw zero-add));
     flow = go found (rw (first_end (late s) 64 64 (omega arith)) at w.flow);
@@ -198,6 +198,25 @@ module _ (s : Site) where
       go : (f : Option ℕ) → option_or f (some_below 64 64) ≡ some_below 64 (first_late s) → f ≡ some_below 64 (first_late s)
       go (Some m) e = e
       go None e = e
+
+  -- No flow from n on is live: then what is found below n is all that there is.
+  pub judging_end : (r n : ℕ) (loads : List ℕ) (found : Option ℕ) → n + r ≡ 64 → ((k : ℕ) → n ≤ k → k < 64 → live s k ≡ false) → Judging s n loads found
+      → ReservedAs s loads found
+  judging_end zero n loads found e none w = let z : n ≡ 64 = omega arith in judging_whole loads found (rw z at w)
+  judging_end (suc r) n loads found e none w =
+      judging_end r (n + 1) loads found (omega arith) (λ k a b. none k (omega arith) b)
+      (judging_idle n loads found (omega arith) w (none n (omega arith) (omega arith)))
+
+  -- As where no live flow is left to meet.
+  module _ (n left : ℕ) (loads : List ℕ) (found : Option ℕ) (w : Judging s n loads found) (more : Left s n left) (z : left ≡ 0) (few : n ≤ 64) where
+    judging_left : ReservedAs s loads found
+    judging_left = judging_end (64 - n) n loads found (omega arith) (none_left s n left more z) w
+
+    pub sums_left : loads ≡ loads_of s
+    sums_left = judging_left.sums
+
+    pub late_left : found ≡ some_below 64 (first_late s)
+    late_left = judging_left.flow
 
 -- The load of a link in the list of all.
 pub load_in : (s : Site) (loads : List ℕ) → loads ≡ loads_of s → (i : ℕ) → i < 63 → get_or loads i 0 ≡ load s (i + 1)
@@ -253,6 +272,8 @@ module _ (capacities loads periods p : List ℕ) (rate n u : ℕ) where
 pub ruleset walking = (along_up, along_end, carried_up, carried_end, width_le, up_within)
 
 pub ruleset unfitting = (full_up, full_end, width_le, up_within)
+
+pub ruleset reserving = (sums_left, late_left)
 
 -- With the loads of a site these are its own links without room.
 module _ (s : Site) (rate : ℕ) (long : length s.parents ≡ 63) where

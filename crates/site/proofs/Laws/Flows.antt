@@ -1,8 +1,10 @@
 -- Flows of a site: which are live, how many, and what a change at one number leaves.
-use Prim.Native.Nat.{ℕ, zero, suc, ◌+◌, ◌≤◌, ◌<◌}
+use Prim.Native.Nat.{ℕ, zero, suc, ◌+◌, ◌-◌, ◌≤◌, ◌<◌}
 use mathlib.Core.Path.{◌≡◌, refl, sym, ◌∙◌}
 use mathlib.Core.Bool.{Bool, true, false, cond}
+use mathlib.Core.Logic.{◌⊎◌, inl, inr}
 use lib.ListN.{length, get_or, get_or-eq_default}
+use native.Mathlib.Nat.{eq-or-lt_of_le}
 use native.Mathlib.Omega.{arith}
 use Rattle.site.specs.declared.Site.{Site}
 use Rattle.site.specs.Sites.{live, flow_count, with_fields, with_flow}
@@ -51,6 +53,41 @@ counted_idle s n count m c e q = record { few = omega (arith, c.few); is = q ∙
 pub counted_end : (s : Site) (n count : ℕ) → Counted s n count → n ≡ 64 → count ≡ flow_count s
 unfolding flow_count
 counted_end s n count c e = c.is ∙ rw e
+
+-- The live flows from n on are so many, so that a loop that counts them down ends behind the last of them.
+pub record Left (s : Site) (n left : ℕ) : Type 0 where
+  pub all : sum_to (λ m. cond (live s m) 1 0) n + left ≡ flow_count s
+
+pub left_start : (s : Site) (left : ℕ) → left ≡ flow_count s → Left s 0 left
+unfolding sum_to
+left_start s left e = record { all = omega (arith, e) }
+
+pub left_live : (s : Site) (n left m : ℕ) → Left s n left → get_or s.states n 0 ≡ 1 → 0 < left → m ≡ left - 1 → Left s (n + 1) m
+unfolding live
+left_live s n left m w e l q = record { all = omega (arith, w.all, sum_next s n 1 (rw e)) }
+
+pub left_idle : (s : Site) (n left m : ℕ) → Left s n left → (get_or s.states n 0 ≡ 1 → ⊥) → m ≡ left → Left s (n + 1) m
+unfolding live
+left_idle s n left m w e q = record { all = omega (arith, w.all, sum_next s n 0 (rw (ne_eqb _ _ e))) }
+
+ones_rise : (s : Site) (n k : ℕ) → n ≤ k → sum_to (λ m. cond (live s m) 1 0) n ≤ sum_to (λ m. cond (live s m) 1 0) k
+unfolding sum_to
+ones_rise s n zero l = let e : n ≡ 0 = omega arith in rw e (omega arith)
+ones_rise s n (suc k) l = go (eq-or-lt_of_le l) (ones_rise s n k)
+  where
+    go : (n ≡ suc k) ⊎ (n < suc k) → (n ≤ k → sum_to (λ m. cond (live s m) 1 0) n ≤ sum_to (λ m. cond (live s m) 1 0) k)
+        → sum_to (λ m. cond (live s m) 1 0) n ≤ sum_to (λ m. cond (live s m) 1 0) (suc k)
+    go (inl e) lower = rw e (omega arith)
+    go (inr h) lower = omega (arith, lower (omega arith))
+
+-- Where none is left, none to come is live.
+pub none_left : (s : Site) (n left : ℕ) → Left s n left → left ≡ 0 → (k : ℕ) → n ≤ k → k < 64 → live s k ≡ false
+unfolding flow_count
+none_left s n left w z k lo hi = go (live s k) refl
+  where
+    go : (t : Bool) → live s k ≡ t → t ≡ false
+    go true e = absurd (omega (arith, w.all, ones_rise s n k lo, ones_rise s (k + 1) 64 (omega arith), sum_next s k 1 (rw e)))
+    go false e = refl
 
 -- A number that the list of states has not is not live.
 pub dead_beyond : (s : Site) (n : ℕ) → length s.states ≤ n → false ≡ live s n
