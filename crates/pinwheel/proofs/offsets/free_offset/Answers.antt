@@ -22,7 +22,7 @@ unfolding sends
 search-preserved c =
     let try = c.earlier.invariant in
     let sent : one (steps_of c.args.dealt.now) (places_of c.args.dealt.now) c.earlier.candidate c.earlier.child-index ≡ true =
-    dealt_sends _ _ _ c.earlier-test.true ∙ eq-eqb _ _ c.if-candidate-child.true in
+    dealt_sends _ _ _ c.earlier-test.true ∙ eq-eqb _ _ (omega arith) in
     try.answer ∙ first_miss _ _ _ try.below (ap not (try.none ∙ any_hit _ _ _ c.earlier-test.true sent))
 
 pub earlier-preserved : goal.earlier-preserved
@@ -30,7 +30,7 @@ unfolding sends
 earlier-preserved c =
     let try = c.earlier.invariant in
     let silent : one (steps_of c.args.dealt.now) (places_of c.args.dealt.now) c.earlier.candidate c.earlier.child-index ≡ false =
-    dealt_sends _ _ _ c.earlier-test.true ∙ ne_eqb _ _ c.if-candidate-child.false in
+    dealt_sends _ _ _ c.earlier-test.true ∙ ne_eqb _ _ (omega arith) in
     record {
       same = try.same;
       below = try.below;
