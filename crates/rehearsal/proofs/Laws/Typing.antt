@@ -72,29 +72,33 @@ module _ (space : List ℕ) (kept : ℕ) (σ σ' : State) (s t : ℕ × List ℕ
       let short : length line ≤ length space = rw (h.whole l, length-take-le kept space l) l in
       rw (le-leb _ _ short, h.whole l) g
 
+-- Some line is held, whatever is kept.
+some_line : (space : List ℕ) (kept : ℕ) → (line : List ℕ) × HoldsLine space kept line
+some_line space kept = elim (lt_or_le (length space) kept) [
+  | inl l ↦ (0 ∷ space, record { whole = λ m. absurd (omega arith); longer = λ m. omega arith })
+  | inr l ↦ (take kept space, record { whole = λ m. refl; longer = λ m. absurd (omega arith) })
+]
+
 -- Bytes taken up one by one: what stands after the first i of them goes on to what all of them come to.
 pub record TakingUp (bytes space₀ out₀ : List ℕ) (σ₀ : State) (kept₀ i : ℕ) (σ : State) (space : List ℕ) (kept : ℕ) (t : ℕ × List ℕ) : Type 0 where
   pub within : i ≤ length bytes
   pub space_long : length space ≡ length space₀
+  pub out_long : length t.1 ≡ length out₀
   pub goes : (d : Desk) → Stands (0, out₀) d σ₀ space₀ kept₀ (0, out₀)
       → (e : Desk) × Stands (0, out₀) e σ space kept t × (taken_up (length space₀) (0, out₀) e (drop i bytes) ≡ taken_up (length space₀) (0, out₀) d bytes)
 
 module _ (bytes space₀ out₀ : List ℕ) (σ₀ : State) (kept₀ : ℕ) where
   pub taking_none : TakingUp bytes space₀ out₀ σ₀ kept₀ 0 σ₀ space₀ kept₀ (0, out₀)
-  taking_none = record { within = omega arith; space_long = refl; goes = λ d h. (d, h, refl) }
+  taking_none = record { within = omega arith; space_long = refl; out_long = refl; goes = λ d h. (d, h, refl) }
 
   module _ (i : ℕ) (σ : State) (space : List ℕ) (kept filled : ℕ) (out : List ℕ) (w : TakingUp bytes space₀ out₀ σ₀ kept₀ i σ space kept (filled, out)) where
-    -- The answers change no length.
-    out_long : (e : Desk) → Stands (0, out₀) e σ space kept (filled, out) → length out ≡ length out₀
-    out_long e h = ap (λ (s : ℕ × List ℕ). length s.1) h.handed ∙ puts_long (0, out₀) e.text
-
     -- One byte with room for an answer.
     next_byte : (e : Desk) → Stands (0, out₀) e σ space kept (filled, out) → i < length bytes → leb (filled + 8192) (length out) ≡ true
         → taken_up (length space₀) (0, out₀) (fed_byte (length space₀) e (get_or bytes i 0)) (drop (i + 1) bytes) ≡ taken_up (length space₀) (0, out₀) e (drop i bytes)
     unfolding taken_up
     next_byte e h l room =
         let more : i + 1 ≡ suc i = omega arith in
-        let test : leb ((puts (0, out₀) e.text).0 + 8192) (length out₀) ≡ true = rw (← h.handed, ← out_long e h) room in
+        let test : leb ((puts (0, out₀) e.text).0 + 8192) (length out₀) ≡ true = rw (← h.handed, ← w.out_long) room in
         rw (more, drop-cons bytes i 0 l, test)
 
     pub taking_line : i < length bytes → leb (filled + 8192) (length out) ≡ true → get_or bytes i 0 ≡ 10
@@ -104,9 +108,14 @@ module _ (bytes space₀ out₀ : List ℕ) (σ₀ : State) (kept₀ : ℕ) wher
     taking_line l room newline σ' t g = record {
       within = omega arith;
       space_long = w.space_long;
+      out_long = long (some_line space kept) ∙ w.out_long;
       goes = λ d h. go (w.goes d h);
     }
       where
+        -- An answer changes no length.
+        long : (line : List ℕ) × HoldsLine space kept line → length t.1 ≡ length out
+        long (line, h) = ap (λ (s : ℕ × List ℕ). length s.1) (g line h).1 ∙ puts_long (filled, out) (answered_to (asked_in (length space) line) σ).text
+
         answered : (e : Desk) → Stands (0, out₀) e σ space kept (filled, out) → Stands (0, out₀) (fed_byte (length space₀) e (get_or bytes i 0)) σ' space 0 t
         answered e h =
             let told = rw (w.space_long, h.at.state) at (g e.line h.at.held) in
@@ -123,6 +132,7 @@ module _ (bytes space₀ out₀ : List ℕ) (σ₀ : State) (kept₀ : ℕ) wher
     taking_byte l room other space' kept' g = record {
       within = omega arith;
       space_long = ap (λ (s : ℕ × List ℕ). length s.1) g ∙ put_long (kept, space) (get_or bytes i 0 ∷ []) ∙ w.space_long;
+      out_long = w.out_long;
       goes = λ d h. go (w.goes d h);
     }
       where
@@ -148,7 +158,7 @@ module _ (bytes space₀ out₀ : List ℕ) (σ₀ : State) (kept₀ : ℕ) wher
       where
         stays : (e : Desk) → Stands (0, out₀) e σ space kept (filled, out) → taken_up (length space₀) (0, out₀) e (drop i bytes) ≡ (e, drop i bytes)
         stays e h =
-            let test : leb ((puts (0, out₀) e.text).0 + 8192) (length out₀) ≡ false = rw (← h.handed, ← out_long e h) full in
+            let test : leb ((puts (0, out₀) e.text).0 + 8192) (length out₀) ≡ false = rw (← h.handed, ← w.out_long) full in
             rw (drop-cons bytes i 0 l, test)
 
         go : {all : Desk × List ℕ} → (e : Desk) × Stands (0, out₀) e σ space kept (filled, out) × (taken_up (length space₀) (0, out₀) e (drop i bytes) ≡ all)
