@@ -41,7 +41,9 @@ use Rattle.line_answers.proofs.answer_line.Reads as answers
 use Rattle.rehearsal.proofs.take_up.Reads as taken
 use Rattle.pinwheel.proofs.assign.Reads as slot-rules
 use Rattle.bounds.proofs.delay_bound.Reads as delays
+use Rattle.judgement.specs.Inner.{SettledAs}
 use Rattle.judgement.proofs.judge.Reads as judgements
+use Rattle.judgement.proofs.settle.Reads as settlements
 use Rattle.site_check.proofs.passes.Reads as checks
 use Rattle.schedule_check.proofs.Schedule.passes.Reads as schedule-checks
 use Rattle.plan_reader.proofs.read_with.Reads as readings
@@ -67,6 +69,10 @@ slot_ruling_lem κs a r x p = p
 
 pub judging : (κs : _) (a : _) (r : _) (x : _) → judgements.Post κs a r x → (outcome r.verdict, r.site) ≡ with_site (judge_of a.0)
 judging κs a r x p = p
+
+-- What a reading and check 14 judge a site by.
+pub settling : (κs : _) (a : _) (r : _) (x : _) → settlements.Post κs a r x → SettledAs a.0.now (outcome r) x.0.now a.1.0.now x.1.0.now
+settling κs a r x p = p
 
 pub site_passing : (κs : _) (a : _) (r : _) (x : _) → checks.Post κs a r x → r ≡ passes_of a.0.now
 site_passing κs a r x p = p
