@@ -1,9 +1,20 @@
 // Bytes put into a borrowed slice, and two slices compared. What a writer answers is said in the definitions.
 #![tactic(auto)]
 
-ghost use Rattle.std.specs.Prelude.{◌≡◌};
+ghost use Rattle.std.specs.Prelude.{◌≡◌, ◌+◌, ◌≤◌, ◌++◌, length, take, drop};
 ghost use Rattle.slices.specs.Put.{put as put·};
 ghost use Rattle.lists.specs.Lists.{same as same·};
+
+// Apart from `put`, so that the test of room and the loop each have a function. Byte by byte: the compiled loop needs no name from outside but `memcpy`, where the
+// library's copy of a slice would need `memmove` too.
+fn store(out: &mut [u8], at: usize, word: &[u8])
+    requires { at + length word.now ≤ length out.old }
+    ensures { out.new ≡ take at out.old ++ word.now ++ drop (at + length word.now) out.old }
+{
+    for i in 0..word.len() {
+        out[at + i] = word[i];
+    }
+}
 
 // Puts the word behind the first `at` bytes, if there is room; answers how many are taken then, one more than there are without room.
 pub fn put(out: &mut [u8], at: usize, word: &[u8]) -> usize
@@ -17,7 +28,7 @@ pub fn put(out: &mut [u8], at: usize, word: &[u8]) -> usize
     if space - size < at {
         return space + 1;
     }
-    out[at..at + size].copy_from_slice(word);
+    store(out, at, word);
     at + size
 }
 

@@ -4,12 +4,35 @@ use mathlib.Core.Path.{◌≡◌, refl, sym, ◌∙◌, ap}
 use mathlib.Core.Bool.{Bool, true, false, cond}
 use mathlib.Core.List.{List, ◌++◌}
 use lib.Dec.{leb}
-use lib.ListN.{length, take, drop, length-append}
-use lib.Seq.{sets, sets-eq, length-sets, length-paste, take-length}
+use lib.ListN.{length, get_or, take, drop, set, length-append}
+use lib.Seq.{sets, sets-eq, length-sets, paste, paste-zero, paste-suc, length-paste, take-length}
 use borrow.Author.Tests.{le-leb, lt-leb, leb-true}
+use native.Mathlib.Numerals.{add-one}
 use native.Mathlib.Omega.{arith}
 use Rattle.slices.specs.Put.{put}
 use Rattle.slices.proofs.Laws.Stores.{sets_append}
+
+-- The first i bytes of a word stand in the space from `at` on.
+pub record Pasted (old : List ℕ) (at : ℕ) (word : List ℕ) (i : ℕ) (out : List ℕ) : Type 0 where
+  pub few : i ≤ length word
+  pub is : out ≡ paste old at word i
+
+module _ (old : List ℕ) (at : ℕ) (word : List ℕ) where
+  pub pasted_start : Pasted old at word 0 old
+  pasted_start = record { few = omega arith; is = paste-zero old at word }
+
+  pub pasted_long : (i : ℕ) (out : List ℕ) → at + length word ≤ length old → Pasted old at word i out → length out ≡ length old
+  pasted_long i out room p = ap (λ (o : List ℕ). length o) p.is ∙ length-paste old at word i (omega (arith, p.few)) p.few
+
+  pub pasted_more : (i : ℕ) (out : List ℕ) → at + length word ≤ length old → Pasted old at word i out → i < length word
+      → Pasted old at word (i + 1) (set out (at + i) (get_or word i 0))
+  pasted_more i out room p l = record {
+    few = omega arith;
+    is = ap (λ (o : List ℕ). set o (at + i) (get_or word i 0)) p.is ∙ paste-suc old at word i 0 (omega arith) l ∙ rw (add-one i);
+  }
+
+  pub pasted_end : (i : ℕ) (out : List ℕ) → Pasted old at word i out → length word ≤ i → out ≡ take at old ++ word ++ drop (at + length word) old
+  pasted_end i out p l = let e : i ≡ length word = omega (arith, p.few) in p.is ∙ rw (e, take-length word)
 
 -- A piece with room, and one without.
 pub put_room : (at : ℕ) (out piece : List ℕ) → at + length piece ≤ length out
