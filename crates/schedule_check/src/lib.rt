@@ -48,7 +48,8 @@ fn slots_bad(links: u8, offsets: &[u16; 63], periods: &[u16; 63]) -> bool
 {
     let mut bad = false;
     for i in 0..links as usize {
-        bad |= bad_slots(offsets[i], periods[i]);
+        let outside = bad_slots(offsets[i], periods[i]);
+        bad |= outside;
     }
     bad
 }

@@ -57,7 +57,7 @@ fn put_reading(page: &mut Page, bytes: &[u8], read: Reading) {
     let mut space = [0; 2048];
     let size = bytes.len();
     if let Err(refusal) = read.verdict {
-        report_lines::put_refusal(page, refusal.fault.number(), refusal.place);
+        report_lines::put_verdict(page, Err(refusal));
         return;
     }
     page.put_field(b"accepted links ", u64::from(read.schedule.links));

@@ -18,7 +18,7 @@ fn put_list(page: &mut Page, list: &[u16]) {
 fn put_assign(page: &mut Page, gaps: &[u16], offsets: &mut [u16], periods: &mut [u16]) {
     match pinwheel::assign(gaps, offsets, periods) {
         Ok(base) => page.put_field(b"base ", u64::from(base)),
-        Err(refusal) => report_lines::put_refusal(page, refusal.fault.number(), refusal.place),
+        Err(refusal) => report_lines::put_verdict(page, Err(refusal)),
     }
     page.put(b" offsets");
     put_list(page, offsets);

@@ -38,7 +38,7 @@ fn put_plan(page: &mut Page, bytes: &[u8]) {
     let read = plan_reader::read_plan(bytes);
     match read.verdict {
         Ok(()) => put_accepted(page, bytes, read.site),
-        Err(refusal) => report_lines::put_refusal(page, refusal.fault.number(), refusal.place),
+        refused => report_lines::put_verdict(page, refused),
     }
 }
 

@@ -5,7 +5,7 @@ use Rattle.schedule_check.proofs.Laws.Check.{slots_walked, seen_next, seen_end}
 use Rattle.schedule_check.proofs.slots_bad.Goals as goal
 
 pub loop-i-preserved : goal.loop-i-preserved
-loop-i-preserved c = seen_next _ _ _ _ _ c.loop-i.invariant (omega arith) _ c.bad_slots-bad.ensures
+loop-i-preserved c = seen_next _ _ _ _ _ c.loop-i.invariant (omega arith) _ c.bad_slots-outside.ensures
 
 pub returns : goal.returns
 returns c =
