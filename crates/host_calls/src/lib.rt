@@ -1,4 +1,5 @@
-// The calls of a host that read a plan and change none: its sizes, its schedule, the rehearsal, who sends, and the bound of a flow.
+// The calls of a host that read a plan and change none: its sizes, its schedule, the rehearsal, who sends, and the bound of a flow. The site that was read stays where
+// the reading put it, and is lent from there: it has 887 bytes.
 #![tactic(auto)]
 
 ghost use Rattle.std.specs.Prelude.{◌≡◌};
@@ -23,14 +24,14 @@ pub fn read_plan(plan: &[u8]) -> u64
 pub fn schedule(plan: &[u8], out: &mut [u8]) -> u64
     ensures { (told result, out.new) ≡ schedule_from plan.now out.old }
 {
-    match plan_reader::read_site(plan) {
+    match &plan_reader::read_site(plan) {
         Ok(site) => answer(schedule_writer::encode_lists(
             site.links,
             &site.offsets,
             &site.periods,
             out,
         ).map(|size| size as u64)),
-        Err(refused) => answer(Err(refused)),
+        Err(refused) => answer(Err(*refused)),
     }
 }
 
@@ -60,10 +61,11 @@ pub fn slot(plan: &[u8], counters: &mut [u32], arrivals: &[u16], number: u32) ->
     if arrivals.len() != 64 {
         return refusal_of(Fault::WrongLength);
     }
-    let Ok(site) = plan_reader::read_site(plan) else {
+    let read = plan_reader::read_site(plan);
+    let Ok(site) = &read else {
         return refusal_of(Fault::NoSite);
     };
-    answer(moves::advance(&site, counters, arrivals, number).map(|()| 0))
+    answer(moves::advance(site, counters, arrivals, number).map(|()| 0))
 }
 
 // The child that sends. Check 14 is not asked again of the site that was read, which passes it: the law `sender_looks` of crate sender.
@@ -71,10 +73,11 @@ pub fn slot(plan: &[u8], counters: &mut [u32], arrivals: &[u16], number: u32) ->
 pub fn sender(plan: &[u8], parent: u8, slot: u32) -> u64
     ensures { told result ≡ sender_from plan.now parent slot }
 {
-    let Ok(site) = plan_reader::read_site(plan) else {
+    let read = plan_reader::read_site(plan);
+    let Ok(site) = &read else {
         return refusal_of(Fault::NoSite);
     };
-    answer(sender::look_up(&site, parent, slot).map(u64::from))
+    answer(sender::look_up(site, parent, slot).map(u64::from))
 }
 
 // 5 and 16 as for a release, since only a live flow has a bound.
@@ -82,8 +85,9 @@ pub fn sender(plan: &[u8], parent: u8, slot: u32) -> u64
 pub fn bound(plan: &[u8], flow: u8) -> u64
     ensures { told result ≡ bound_from plan.now flow }
 {
-    let Ok(site) = plan_reader::read_site(plan) else {
+    let read = plan_reader::read_site(plan);
+    let Ok(site) = &read else {
         return refusal_of(Fault::NoSite);
     };
-    host_answers::bound_of(&site, flow)
+    host_answers::bound_of(site, flow)
 }

@@ -80,7 +80,8 @@ pub fn admit(
         return refusal_of(Fault::WrongLength);
     }
     let mut loads = [0u32; 63];
-    let Ok(site) = plan_reader::read_with(plan, &mut loads) else {
+    let read = plan_reader::read_with(plan, &mut loads);
+    let Ok(site) = &read else {
         return refusal_of(Fault::NoSite);
     };
     let flow = Flow {
@@ -89,8 +90,8 @@ pub fn admit(
         rate,
         deadline,
     };
-    match flow_checks::judge_flow(&site, &loads, flow) {
-        Ok(()) => inserted(&site, plan, counters, flow, out),
+    match flow_checks::judge_flow(site, &loads, flow) {
+        Ok(()) => inserted(site, plan, counters, flow, out),
         Err(refused) => answer(Err(refused)),
     }
 }
@@ -104,11 +105,12 @@ pub fn release(plan: &[u8], counters: &mut [u32], number: u8, out: &mut [u8]) ->
     if counters.len() != 576 {
         return refusal_of(Fault::WrongLength);
     }
-    let Ok(site) = plan_reader::read_site(plan) else {
+    let read = plan_reader::read_site(plan);
+    let Ok(site) = &read else {
         return refusal_of(Fault::NoSite);
     };
     match flow_checks::judge_number(&site.states, number) {
-        Ok(()) => dropped(&site, plan, counters, number, out),
+        Ok(()) => dropped(site, plan, counters, number, out),
         Err(refused) => answer(Err(refused)),
     }
 }
