@@ -1,7 +1,8 @@
 // What a planner types, taken up byte by byte: each line that ends is carried out on the site and the counters as the one before it left them.
 #![tactic(auto)]
 
-ghost use Rattle.std.specs.Prelude.{ℕ, ◌+◌, ◌≡◌, List, leb, length};
+ghost use Rattle.std.specs.Prelude.{ℕ, ◌+◌, ◌≡◌, List, [], ◌∷◌, leb, length};
+ghost use Rattle.text.specs.Put.{puts};
 ghost use Rattle.text.specs.Page.{held};
 ghost use Rattle.line_answers.specs.Steps.{answered_to, CarriedAs};
 ghost use Rattle.rehearsal.specs.Desk.{asked_in, HoldsLine, AllTaken};
@@ -25,18 +26,36 @@ pub struct TakenUp {
     pub filled: usize,
 }
 
-// Carries out the line that the page holds. One that is too long is malformed.
-fn answer_held(line: &Page<'_>, site: Site, counters: &mut [u32], answers: &mut Page<'_>) -> Site
+// Puts a byte of the line behind those that are there; answers how many there are then. A number by itself, and no page, which would have it in memory: a byte has to
+// wait until the number that the one before left there is back.
+fn keep(space: &mut [u8], kept: usize, byte: u8) -> usize
+    ensures { (result, space.new) ≡ puts (kept, space.old) ((byte ∷ []) ∷ []) }
+{
+    if kept < space.len() {
+        space[kept] = byte;
+        return kept + 1;
+    }
+    space.len() + 1
+}
+
+// Carries out the line that the space holds. One that is too long is malformed.
+fn answer_held(
+    space: &[u8],
+    kept: usize,
+    site: Site,
+    counters: &mut [u32],
+    answers: &mut Page<'_>,
+) -> Site
     ensures same_space { answers.new.space.ghost_name ≡ answers.old.space.ghost_name }
-    ensures carried { (typed : List ℕ) → HoldsLine line.now.space.now line.now.taken typed
-        → CarriedAs (answered_to (asked_in (length line.now.space.now) typed) (record { site = site; counters = counters.old }))
+    ensures carried { (typed : List ℕ) → HoldsLine space.now kept typed
+        → CarriedAs (answered_to (asked_in (length space.now) typed) (record { site = site; counters = counters.old }))
         (record { site = result; counters = counters.new }) (held answers.old) (held answers.new) }
 {
-    if line.space.len() < line.taken {
+    if space.len() < kept {
         answers.put(b"error\n");
         return site;
     }
-    answer_line(&line.space[..line.taken], site, counters, answers)
+    answer_line(&space[..kept], site, counters, answers)
 }
 
 // Whether an answer of 8,192 bytes has room behind those that are filled: no answer is longer, by the law `answers_short`.
@@ -58,7 +77,7 @@ pub fn take_up(
         before.kept result.taken (record { site = result.after.site; counters = counters.new }) space.new result.after.kept (result.filled, out.new) }
 {
     let mut site = before.site;
-    let mut line = Page::behind(space, before.kept);
+    let mut kept = before.kept;
     let mut answers = Page::over(out);
     let mut taken = bytes.len();
     for (i, byte) in bytes.iter().enumerate() {
@@ -67,16 +86,13 @@ pub fn take_up(
             break;
         }
         if *byte == b'\n' {
-            site = answer_held(&line, site, counters, &mut answers);
-            line.taken = 0;
+            site = answer_held(space, kept, site, counters, &mut answers);
+            kept = 0;
         } else {
-            line.put(&[*byte]);
+            kept = keep(space, kept, *byte);
         }
     }
-    let after = Rehearsal {
-        site,
-        kept: line.taken,
-    };
+    let after = Rehearsal { site, kept };
     TakenUp {
         after,
         taken,

@@ -1,6 +1,6 @@
 use borrow.Author.Rules.{rules}
 use Prim.Native.Nat.{◌+◌}
-use mathlib.Core.Path.{◌≡◌}
+use mathlib.Core.Path.{◌≡◌, refl}
 use mathlib.Core.Bool.{true, false}
 use lib.Dec.{leb}
 use lib.ListN.{length}
@@ -13,16 +13,14 @@ pub loop-i-preserved : goal.loop-i-preserved
 loop-i-preserved c =
     let room : leb (c.loop-i.answers.taken + 8192) (length c.loop-i.answers.space.now) ≡ true = search rules in
     elim c.if-byte-eq10.branch [
-      | then-byte-eq10 w ↦ rw (w.line-is, w.counters-is, w.answers-is, w.site-is) (record {
+      | then-byte-eq10 w ↦ rw (w.space-is, w.counters-is, w.answers-is, w.site-is, w.kept-is) (record {
         going = taking_line _ _ _ _ _ _ _ _ _ _ _ c.loop-i.invariant.going c.loop-i-test.true room w.if-byte-eq10.true _ _ w.answer_held-site.ensures.carried;
-        line_same = search rules;
         answers_same = search rules;
         counters_long = search rules;
         all = search rules;
       })
-      | else-byte-eq10 w ↦ rw (w.line-is, w.counters-is, w.answers-is, w.site-is) (record {
-        going = taking_byte _ _ _ _ _ _ _ _ _ _ _ c.loop-i.invariant.going c.loop-i-test.true room w.if-byte-eq10.false _ _ w.put.ensures.1;
-        line_same = search rules;
+      | else-byte-eq10 w ↦ rw (w.space-is, w.counters-is, w.answers-is, w.site-is, w.kept-is) (record {
+        going = taking_byte _ _ _ _ _ _ _ _ _ _ _ c.loop-i.invariant.going c.loop-i-test.true room w.if-byte-eq10.false _ _ w.keep-kept.ensures;
         answers_same = search rules;
         counters_long = search rules;
         all = search rules;
@@ -33,9 +31,9 @@ pub returns : goal.returns
 returns c =
     elim c.loop-i-test.branch [
       | else-loop-i-test w ↦ taken_of_lent _ _ _ _ _ _ _ _ _ _ _ (taken_all _ _ _ _ _ _ _ _ _ _ _ c.loop-i.invariant.going w.loop-i-test.false)
-          _ _ _ _ _ _ _ c.behind-line.ensures.begun c.over-answers.ensures.empty (search rules) (search rules) (omega arith)
+          _ _ _ _ _ _ _ refl c.over-answers.ensures.empty (search rules) (search rules) (omega arith)
       | then-loop-i-test+then-not-roomy w ↦
           let full : leb (c.loop-i.answers.taken + 8192) (length c.loop-i.answers.space.now) ≡ false = search rules in
           taken_of_lent _ _ _ _ _ _ _ _ _ _ _ (taken_full _ _ _ _ _ _ _ _ _ _ _ c.loop-i.invariant.going w.loop-i-test.true full)
-          _ _ _ _ _ _ _ c.behind-line.ensures.begun c.over-answers.ensures.empty (search rules) (search rules) w.taken-is
+          _ _ _ _ _ _ _ refl c.over-answers.ensures.empty (search rules) (search rules) w.taken-is
     ]

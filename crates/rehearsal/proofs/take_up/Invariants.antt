@@ -7,9 +7,8 @@ use Rattle.rehearsal.proofs.take_up.Given as goal
 
 abbrev pub invariant-loop-i : goal.invariant-loop-i
 invariant-loop-i l = record {
-  going : TakingUp l.bytes l.initial.line.space.now l.initial.answers.space.now (record { site = l.initial.site; counters = l.initial.counters })
-      l.initial.line.taken l.i (record { site = l.site; counters = l.counters }) l.line.space.now l.line.taken (held l.answers);
-  line_same : l.line.space.ghost_name ≡ l.initial.line.space.ghost_name;
+  going : TakingUp l.bytes l.initial.space l.initial.answers.space.now (record { site = l.initial.site; counters = l.initial.counters })
+      l.initial.kept l.i (record { site = l.site; counters = l.counters }) l.space l.kept (held l.answers);
   answers_same : l.answers.space.ghost_name ≡ l.initial.answers.space.ghost_name;
   counters_long : length l.counters ≡ length l.initial.counters;
   all : l.taken ≡ length l.bytes;
