@@ -1,7 +1,6 @@
--- The modules named here hold those of texts and those of plan bytes.
+-- Facts of lower crates that pages name and that no proof above them needs. The modules named here hold those of texts and those of plan bytes.
 pub mod Texts
 pub mod Plans
--- Facts of lower crates that pages name and that no proof above them needs.
 use Prim.Native.Nat.{ℕ, zero, suc, ◌/◌, ◌≤◌}
 use mathlib.Core.Path.{◌≡◌, refl, sym, ap}
 use lib.ListN.{length}

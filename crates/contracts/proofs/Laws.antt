@@ -3,7 +3,8 @@
 -- lists are made of are the very steps of a run. `a` holds what is handed in, in the order of the parameters, and `x` what is lent as the call leaves it. A
 -- contract that says less gives its law no more. The laws of the library's exported functions stand in `slotplan_lib`.
 use mathlib.Core.Path.{◌≡◌, refl}
-use Rattle.rulings.specs.Outcome.{outcome}
+use lib.ListN.{take}
+use Rattle.rulings.specs.Outcome.{outcome, refused}
 use Rattle.std.specs.Result.{MatchResult}
 use Rattle.judgement.specs.Judge.{with_site, judge_of}
 use Rattle.plan_reader.specs.Read.{read_of}
@@ -62,6 +63,17 @@ use Rattle.simulation.proofs.slot.Reads as moved
 use Rattle.slot_rule.specs.Assign.{assigned}
 use Rattle.reservations.specs.Reservations.{loads_of, delay_bound}
 use Rattle.link_loads.proofs.loads.Reads as loads
+use Rattle.site.specs.declared.Site.{Site}
+use Rattle.site.specs.Sites.{live, with_states}
+use Rattle.flow_checks.specs.Flows.{number_ruling}
+use Rattle.host_answers.specs.Answers.{answer_of}
+use Rattle.report_lines.specs.Lines.{refusal, refusal_line}
+use Rattle.site.proofs.live_in.Reads as lent-states
+use Rattle.flow_checks.proofs.judge_number.Reads as numbers
+use Rattle.host_answers.proofs.refusal.Reads as told-refusals
+use Rattle.report_lines.proofs.put_refusal.Reads as put-refusals
+use Rattle.report_lines.proofs.put_refusal_line.Reads as put-lines
+use Rattle.report_lines.proofs.deliver.Reads as deliveries
 
 pub slot_ruling_lem : (κs : _) (a : _) (r : _) (x : _) → slot-rules.Post κs a r x
     → (outcome r, x.1.0.now, x.1.1.0.now) ≡ assigned 2 a.0.now a.1.0.now a.1.1.0.now
@@ -187,3 +199,23 @@ word_finding κs a r x p = p
 
 pub operand_reading : (κs : _) (a : _) (r : _) (x : _) → operands.Post κs a r x → r ≡ operand_at a.0.now a.1.0 a.1.1.0
 operand_reading κs a r x p = p.2
+
+-- What takes more than its callers hand on: states of any length, any number of a refusal, any size of a text.
+pub live_told : (κs : _) (a : _) (r : _) (x : _) → lent-states.Post κs a r x → (s : Site) → r ≡ live (with_states s a.0.now) a.1.0
+live_told κs a r x p = p
+
+pub number_judged : (κs : _) (a : _) (r : _) (x : _) → numbers.Post κs a r x → (s : Site) → outcome r ≡ number_ruling (with_states s a.0.now) a.1.0
+number_judged κs a r x p = p
+
+pub refusal_answered : (κs : _) (a : _) (r : _) (x : _) → told-refusals.Post κs a r x → r ≡ answer_of (refused a.0 a.1.0)
+refusal_answered κs a r x p = p
+
+pub refusal_put : (κs : _) (a : _) (r : _) (x : _) → put-refusals.Post κs a r x → Adds a.0.now x.0.now (refusal a.1.0 a.1.1.0)
+refusal_put κs a r x p = p
+
+pub refusal_line_put : (κs : _) (a : _) (r : _) (x : _) → put-lines.Post κs a r x → Adds a.0.now x.0.now (refusal_line a.1.0 a.1.1.0)
+refusal_line_put κs a r x p = p
+
+pub text_delivered : (κs : _) (a : _) (r : _) (x : _) → deliveries.Post κs a r x
+    → (outcome r, x.1.1.0.now) ≡ written (take a.1.0 a.0.now) a.1.1.0.now
+text_delivered κs a r x p = p
