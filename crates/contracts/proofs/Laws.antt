@@ -71,6 +71,7 @@ use Rattle.report_lines.specs.Lines.{refusal, refusal_line}
 use Rattle.site.proofs.live_in.Reads as lent-states
 use Rattle.flow_checks.proofs.judge_number.Reads as numbers
 use Rattle.host_answers.proofs.refusal.Reads as told-refusals
+use Rattle.judgement.proofs.refusal.Reads as site-refusals
 use Rattle.report_lines.proofs.put_refusal.Reads as put-refusals
 use Rattle.report_lines.proofs.put_refusal_line.Reads as put-lines
 use Rattle.report_lines.proofs.deliver.Reads as deliveries
@@ -209,6 +210,9 @@ number_judged κs a r x p = p
 
 pub refusal_answered : (κs : _) (a : _) (r : _) (x : _) → told-refusals.Post κs a r x → r ≡ answer_of (refused a.0 a.1.0)
 refusal_answered κs a r x p = p
+
+pub refusal_told : (κs : _) (a : _) (r : _) (x : _) → site-refusals.Post κs a r x → (refused r.number r.place, r.site) ≡ with_site (refused a.0 a.1.0)
+refusal_told κs a r x p = p
 
 pub refusal_put : (κs : _) (a : _) (r : _) (x : _) → put-refusals.Post κs a r x → Adds a.0.now x.0.now (refusal a.1.0 a.1.1.0)
 refusal_put κs a r x p = p

@@ -16,7 +16,26 @@ pub struct Judged {
     pub site: Site,
 }
 
-// 01: a refusal comes with the empty site.
+// A refusal told by its number, whichever that is, and the site that comes with it.
+#[derive(Clone, Copy)]
+pub struct Told {
+    pub number: u8,
+    pub place: usize,
+    pub site: Site,
+}
+
+// 01: a refusal comes with the empty site; by a number of any table, and of one of them.
+#[tactic(auto, unfolding(crate::specs::Judge::with_site, rulings::specs::Outcome::or_else))]
+pub fn refusal(number: u8, place: usize) -> Told
+    ensures { (refused result.number result.place, result.site) ≡ with_site (refused number place) }
+{
+    Told {
+        number,
+        place,
+        site: Site::empty(),
+    }
+}
+
 #[tactic(auto, unfolding(crate::specs::Judge::with_site, rulings::specs::Outcome::or_else))]
 pub fn refused(refusal: Refusal) -> Judged
     ensures { (outcome result.verdict, result.site) ≡ with_site (refused (number_of refusal.fault) refusal.place) }

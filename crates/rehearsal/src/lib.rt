@@ -76,18 +76,25 @@ pub fn take_up(
     ensures { AllTaken bytes.now space.old out.old (record { site = before.site; counters = counters.old })
         before.kept result.taken (record { site = result.after.site; counters = counters.new }) space.new result.after.kept (result.filled, out.new) }
 {
+    if !roomy(0, out.len()) {
+        return TakenUp {
+            after: before,
+            taken: 0,
+            filled: 0,
+        };
+    }
     let mut site = before.site;
     let mut kept = before.kept;
     let mut answers = Page::over(out);
     let mut taken = bytes.len();
     for (i, byte) in bytes.iter().enumerate() {
-        if !roomy(answers.taken, answers.space.len()) {
-            taken = i;
-            break;
-        }
         if *byte == b'\n' {
             site = answer_held(space, kept, site, counters, &mut answers);
             kept = 0;
+            if !roomy(answers.taken, answers.space.len()) {
+                taken = i + 1;
+                break;
+            }
         } else {
             kept = keep(space, kept, *byte);
         }

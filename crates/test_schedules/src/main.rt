@@ -25,7 +25,7 @@ fn changed(schedule: Schedule, change: Change) -> Schedule {
 // The schedule with all the changes of a line made in turn.
 fn altered(schedule: Schedule, mut numbers: Numbers) -> Schedule {
     let mut next = schedule;
-    while let Some(change) = numbers.next_change() {
+    while let Ok(change) = numbers.next_change() {
         next = changed(next, change);
     }
     next

@@ -1,7 +1,7 @@
 -- What is proved of sites that lines give and change: one entry of a field, all changes of a line, the plan of a line.
 use Prim.Native.Nat.{ℕ, zero, suc, ◌+◌, ◌-◌, ◌≤◌, ◌<◌}
 use mathlib.Core.Path.{◌≡◌, refl, sym, ◌∙◌, ap}
-use mathlib.Core.Bool.{Bool, true, false, cond}
+use mathlib.Core.Bool.{true, false}
 use mathlib.Core.List.{List, []}
 use lib.ListN.{length, get_or, set, take}
 use lib.Seq.{set_out}
@@ -9,12 +9,12 @@ use native.Mathlib.Omega.{arith}
 use native.Mathlib.Nat.{mod-eq_of_lt}
 use Rattle.site.specs.declared.Site.{Site}
 use Rattle.testlib_changes.specs.Changed.{fields_of}
-use Rattle.std.specs.Prelude.{Some, None}
+use Rattle.std.specs.Prelude.{Ok, Err}
 use borrow.Author.Tests.{lt-ltb, le-ltb}
 use mathlib.Core.Logic.{◌⊎◌, inl, inr}
 use Rattle.lists.proofs.Laws.Search.{lt_or_le}
 use Rattle.testlib_text.specs.declared.Change.{Change}
-use Rattle.testlib_text.specs.Lines.{ChangeAt, change_from, change_told}
+use Rattle.testlib_text.specs.Lines.{change_from, change_told}
 use Rattle.testlib_text.proofs.Laws.Lines.{change_after, change_found, change_lost}
 use Rattle.testlib_sites.specs.Altered.{place_of, with_entry, changed, altered_by, altered_from, site_given}
 use Rattle.rulings.specs.Outcome.{Ruling}
@@ -50,7 +50,7 @@ altered_past line (suc steps) at s l = rw (le-ltb at (length line) l)
 
 module _ (line : List ℕ) (whole : Site) (at : ℕ) (s : Site) (w : Altering line whole at s) where
   -- One change more.
-  pub altering_more : (change : Change) (more : Site) → Some change ≡ change_told (change_from line at)
+  pub altering_more : (change : Change) (more : Site) → Ok change ≡ change_told (change_from line at)
       → ((next : ℕ) → more ≡ changed s (record { found = true; field = change.field; index = change.index; value = change.value; next = next }))
       → (length line - (change_from line at).next < length line - at) × Altering line whole (change_from line at).next more
   unfolding altered_by
@@ -68,9 +68,9 @@ module _ (line : List ℕ) (whole : Site) (at : ℕ) (s : Site) (w : Altering li
       }
 
   -- No change more.
-  pub altering_end : None ≡ change_told (change_from line at) → s ≡ whole
+  pub altering_end : (lost : Change) → Err lost ≡ change_told (change_from line at) → s ≡ whole
   unfolding altered_by changed
-  altering_end e = go w.steps w.rest (change_lost line at e)
+  altering_end lost e = go w.steps w.rest (change_lost line at lost e)
     where
       go : (k : ℕ) → altered_by k line at s ≡ whole → ((change_from line at).found ≡ false) × ((change_from line at).next ≡ length line) → s ≡ whole
       go zero rest q = rest

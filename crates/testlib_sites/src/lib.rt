@@ -69,7 +69,7 @@ pub fn altered(site: Site, mut numbers: Numbers) -> Site
     ensures { result ≡ altered_from numbers.entry.line.now numbers.entry.at site }
 {
     let mut next = site;
-    while let Some(change) = numbers.next_change() {
+    while let Ok(change) = numbers.next_change() {
         next = changed(next, change);
     }
     next

@@ -1,5 +1,5 @@
 -- Lines of text with decimal numbers.
-use Rattle.std.specs.Prelude.{ℕ, ◌+◌, ◌-◌, ◌≡◌, Bool, true, false, cond, not, List, [], ◌∷◌, ltb, eqb, length, get_or, take, drop, Option, Some, None}
+use Rattle.std.specs.Prelude.{ℕ, ◌-◌, Bool, true, false, cond, not, List, [], ◌∷◌, ltb, eqb, length, get_or, take, drop, Option, Some, None, Result, Ok, Err}
 use Rattle.lists.specs.Search.{first_in}
 use Rattle.text.specs.Decimal.{is_digit, value_of}
 use Rattle.testlib_text.specs.declared.Change.{Change}
@@ -73,6 +73,9 @@ change_from line start =
 abbrev pub number_told : NumberAt → Option ℕ
 number_told n = cond n.found (Some n.value) None
 
--- The change that a line gives from an index on, if it is complete.
-abbrev pub change_told : ChangeAt → Option Change
-change_told c = cond c.found (Some (record { field = c.field; index = c.index; value = c.value })) None
+-- What a line has of a change from an index on, 0 for the numbers that are missing; and the change, if it is complete.
+abbrev pub change_read : ChangeAt → Change
+change_read c = record { field = c.field; index = c.index; value = c.value }
+
+abbrev pub change_told : ChangeAt → Result Change Change
+change_told c = cond c.found (Ok (change_read c)) (Err (change_read c))

@@ -129,21 +129,26 @@ impl<'a> Numbers<'a> {
         self.at = end;
         Some(value_of(&self.line[first..end]))
     }
-    // The change that the next three numbers ask for.
+
+    // The change that the next three numbers ask for; where the line has not so many, those that it has, and 0 for the others.
     #[tactic(auto, using(crate::proofs::Laws::Lines::changing))]
-    pub fn next_change(&mut self) -> Option<Change>
+    pub fn next_change(&mut self) -> Result<Change, Change>
         ensures line { self.new.line.now ≡ self.old.line.now }
         ensures behind { self.new.at ≡ (change_from self.old.line.now self.old.at).next }
         ensures value { result ≡ change_told (change_from self.old.line.now self.old.at) }
     {
-        let field = self.next()?;
-        let index = self.next()?;
-        let value = self.next()?;
-        Some(Change {
-            field,
-            index,
-            value,
-        })
+        let field = self.next();
+        let index = self.next();
+        let value = self.next();
+        let change = Change {
+            field: field.unwrap_or(0),
+            index: index.unwrap_or(0),
+            value: value.unwrap_or(0),
+        };
+        if value.is_none() {
+            return Err(change);
+        }
+        Ok(change)
     }
 }
 

@@ -152,14 +152,17 @@ module _ (bytes space₀ out₀ : List ℕ) (σ₀ : State) (kept₀ : ℕ) wher
             → Stands (0, out₀) all.0 σ space kept (filled, out) × (drop i bytes ≡ all.1)
         go (e, h, q) = let none : drop i bytes ≡ [] = drop_of_length-le bytes l in rw (← q, none) (h, refl)
 
-    pub taken_full : i < length bytes → leb (filled + 8192) (length out) ≡ false → AllTaken bytes space₀ out₀ σ₀ kept₀ i σ space kept (filled, out)
+    pub taken_full : leb (filled + 8192) (length out) ≡ false → AllTaken bytes space₀ out₀ σ₀ kept₀ i σ space kept (filled, out)
     unfolding taken_up
-    taken_full l full = (w.within, λ d h. go (w.goes d h))
+    taken_full full = (w.within, λ d h. go (w.goes d h))
       where
         stays : (e : Desk) → Stands (0, out₀) e σ space kept (filled, out) → taken_up (length space₀) (0, out₀) e (drop i bytes) ≡ (e, drop i bytes)
-        stays e h =
-            let test : leb ((puts (0, out₀) e.text).0 + 8192) (length out₀) ≡ false = rw (← h.handed, ← w.out_long) full in
-            rw (drop-cons bytes i 0 l, test)
+        stays e h = elim (lt_or_le i (length bytes)) [
+          | inl l ↦
+              let test : leb ((puts (0, out₀) e.text).0 + 8192) (length out₀) ≡ false = rw (← h.handed, ← w.out_long) full in
+              rw (drop-cons bytes i 0 l, test)
+          | inr l ↦ rw (drop_of_length-le bytes l)
+        ]
 
         go : {all : Desk × List ℕ} → (e : Desk) × Stands (0, out₀) e σ space kept (filled, out) × (taken_up (length space₀) (0, out₀) e (drop i bytes) ≡ all)
             → Stands (0, out₀) all.0 σ space kept (filled, out) × (drop i bytes ≡ all.1)

@@ -5,21 +5,21 @@ use mathlib.Core.Bool.{Bool, true, false, not, cond, beq, false≢true}
 use mathlib.Core.List.{List, [], ◌∷◌}
 use mathlib.Core.Logic.{◌⊎◌, inl, inr}
 use lib.Dec.{eqb, ltb}
-use lib.ListN.{length, get_or, take, drop, length-drop, drop_of_length-le}
-use lib.Seq.{drop-cons, take_all}
+use lib.ListN.{length, get_or, take, drop, drop_of_length-le}
+use lib.Seq.{drop-cons}
 use borrow.Author.Tests.{lt-ltb, le-ltb}
 use native.Mathlib.Nat.{pow-suc, pow-le-pow_right}
 use native.Mathlib.Numerals.{add-one}
 use native.Mathlib.Omega.{arith}
-use Rattle.std.specs.Prelude.{Option, Some, None}
+use Rattle.std.specs.Prelude.{Option, Some, None, is_some, Result, Ok, Err, is_ok}
 use Rattle.testlib_text.specs.declared.Change.{Change}
 use Rattle.std.specs.Option.{unwrap_or}
 use Rattle.std.proofs.lemmas.Option.{none-some, cond_some}
-use Rattle.lists.specs.Search.{first, some_below}
+use Rattle.lists.specs.Search.{some_below}
 use Rattle.lists.proofs.Laws.Search.{lt_or_le, first_hit, first_miss, first_end, first_passes, below_when, past_when, below_is, past_is}
 use Rattle.text.specs.Decimal.{is_digit, value_from, value_of}
 use Rattle.line_words.proofs.Laws.Parts.{first_bounds}
-use Rattle.testlib_text.specs.Lines.{NumberAt, ChangeAt, number_told, change_told, digit_is, begins_with, index_from, scanned, number_start, number_end, decimal_at, number_from, number_after, change_of, change_from}
+use Rattle.testlib_text.specs.Lines.{NumberAt, ChangeAt, number_told, change_read, change_told, digit_is, begins_with, index_from, scanned, number_start, number_end, decimal_at, number_from, number_after, change_from}
 
 -- The first byte of a line, where there is one.
 pub begins_none : (line : List ℕ) (byte : ℕ) → length line ≡ 0 → false ≡ begins_with line byte
@@ -201,22 +201,31 @@ module _ (line : List ℕ) (at : ℕ) where
         let found = number_found line at first here.0 value end (omega (arith, here)) end_is v in
         (ap (λ (n : NumberAt). n.next) found, rw (← found))
 
-told_is : (n : NumberAt) (x : ℕ) → Some x ≡ number_told n → (n.found ≡ true) × (x ≡ n.value)
-told_is n x e = let w = cond_some n.found n.value x (sym e) in (w.0, sym w.1)
+told_some : (n : NumberAt) (o : Option ℕ) → o ≡ number_told n → is_some o ≡ true → n.found ≡ true
+told_some n (Some x) e f = (cond_some n.found n.value x (sym e)).0
+told_some n None e f = absurd (false≢true f)
 
--- Where a number is missing, nothing is left of the line.
+told_none : (n : NumberAt) (o : Option ℕ) → o ≡ number_told n → is_some o ≡ false → n.found ≡ false
+told_none n (Some x) e f = absurd (false≢true (sym f))
+told_none n None e f = go n.found e
+  where
+    go : (b : Bool) → None ≡ cond b (Some n.value) None → b ≡ false
+    go true e = absurd (none-some n.value e)
+    go false e = refl
+
+-- Where a number is missing, its value is 0, and nothing is left of the line.
 module _ (line : List ℕ) where
   abbrev missing : NumberAt
   missing = record { found = false; value = 0; next = length line }
 
-  number_missing : (at : ℕ) → None ≡ number_told (number_from line at) → number_from line at ≡ missing
+  number_missing : (at : ℕ) → (number_from line at).found ≡ false → number_from line at ≡ missing
   unfolding number_from
   number_missing at e = go (lt_or_le (number_start line at) (length line)) e
     where
       go : (number_start line at < length line) ⊎ (length line ≤ number_start line at)
-          → None ≡ number_told (cond (ltb (number_start line at) (length line)) (decimal_at line (number_start line at) (number_end line (number_start line at))) missing)
+          → (cond (ltb (number_start line at) (length line)) (decimal_at line (number_start line at) (number_end line (number_start line at))) missing).found ≡ false
           → cond (ltb (number_start line at) (length line)) (decimal_at line (number_start line at) (number_end line (number_start line at))) missing ≡ missing
-      go (inl l) e = absurd (none-some _ (rw (lt-ltb _ _ l) at e))
+      go (inl l) e = absurd (false≢true (sym (rw (lt-ltb _ _ l) at e)))
       go (inr l) e = rw (le-ltb _ _ l)
 
   number_beyond : (at : ℕ) → length line ≤ at → number_from line at ≡ missing
@@ -228,70 +237,81 @@ module _ (line : List ℕ) where
   number_past : number_from line (length line) ≡ missing
   number_past = number_beyond (length line) (omega arith)
 
+  number_value : (at : ℕ) (o : Option ℕ) → o ≡ number_told (number_from line at) → unwrap_or o 0 ≡ (number_from line at).value
+  unfolding number_from
+  number_value at o e = rw e (elim (lt_or_le (number_start line at) (length line)) [
+    | inl l ↦ rw (lt-ltb _ _ l)
+    | inr l ↦ rw (le-ltb _ _ l)
+  ])
+
   -- The line and the index that each number leaves are those of the next.
-  module _ (at : ℕ) where
-    pub first_missing : (o : Option Change) → None ≡ number_told (number_from line at) → o ≡ None
-        → ((number_from line at).next ≡ (change_from line at).next) × (o ≡ change_told (change_from line at))
-    unfolding change_from
-    first_missing o e q = rw (q, number_missing at e, number_past, number_past) (refl, refl)
-
-    module _ (line' : List ℕ) (at' : ℕ) (l : line' ≡ line) (a : at' ≡ (number_from line at).next) where
-      pub second_missing : (o : Option Change) → None ≡ number_told (number_from line' at') → o ≡ None
-          → ((number_from line' at').next ≡ (change_from line at).next) × (o ≡ change_told (change_from line at))
+  module _ (at : ℕ) (line' : List ℕ) (at' : ℕ) (l : line' ≡ line) (a : at' ≡ (number_from line at).next) where
+    module _ (line'' : List ℕ) (at'' : ℕ) (m : line'' ≡ line') (b : at'' ≡ (number_from line' at').next) where
+      pub change_behind : (number_from line'' at'').next ≡ (change_from line at).next
       unfolding change_from
-      second_missing o e q = let f = rw (l, a) at e in rw (q, l, a, number_missing _ f, number_past) (refl, refl)
+      change_behind = rw (m, b, l, a)
 
-      module _ (line'' : List ℕ) (at'' : ℕ) (m : line'' ≡ line') (b : at'' ≡ (number_from line' at').next) where
-        pub third_missing : (o : Option Change) → None ≡ number_told (number_from line'' at'') → o ≡ None
-            → ((number_from line'' at'').next ≡ (change_from line at).next) × (o ≡ change_told (change_from line at))
-        unfolding change_from
-        third_missing o e q = let f = rw (m, b, l, a) at e in rw (q, m, b, l, a, number_missing _ f) (refl, refl)
+      module _ (field index : Option ℕ) (f : field ≡ number_told (number_from line at)) (g : index ≡ number_told (number_from line' at')) where
+        module _ (value : Option ℕ) (h : value ≡ number_told (number_from line'' at'')) where
+          abbrev third : NumberAt
+          third = number_after line (number_after line (number_from line at))
 
-        pub none_missing : (field index value : ℕ) → Some field ≡ number_told (number_from line at) → Some index ≡ number_told (number_from line' at')
-            → Some value ≡ number_told (number_from line'' at'')
-            → ((number_from line'' at'').next ≡ (change_from line at).next)
-            × (Some (record { field = field; index = index; value = value }) ≡ change_told (change_from line at))
-        unfolding change_from
-        none_missing field index value f g h =
-            let g' = rw (l, a) at g in
-            let h' = rw (m, b, l, a) at h in
-            let x = told_is (number_from line at) field f in
-            let y = told_is (number_after line (number_from line at)) index g' in
-            let z = told_is (number_after line (number_after line (number_from line at))) value h' in
-            rw (m, b, l, a) (refl, rw (x.1, y.1, z.1, z.0))
+          told : value ≡ number_told third
+          told = rw (m, b, l, a) at h
 
--- A change that is told is within the line, and one that is not is the last.
-same_change : (w : ChangeAt) (change : Change) → Some change ≡ change_told w
+          module _ (x y z : ℕ) (p : x ≡ unwrap_or field 0) (q : y ≡ unwrap_or index 0) (r : z ≡ unwrap_or value 0) where
+            abbrev read : Change
+            read = record { field = x; index = y; value = z }
+
+            read_is : read ≡ change_read (change_from line at)
+            unfolding change_from
+            read_is = rw (p ∙ number_value at field f, q ∙ number_value _ index (rw (l, a) at g), r ∙ number_value _ value told)
+
+            pub change_whole : is_some value ≡ true → Ok read ≡ change_told (change_from line at)
+            unfolding change_from
+            change_whole e = rw (read_is, told_some third value told e)
+
+            pub change_broken : is_some value ≡ false → Err read ≡ change_told (change_from line at)
+            unfolding change_from
+            change_broken e = rw (read_is, told_none third value told e)
+
+-- A change that is told is within the line, and one that breaks off is the last.
+told_ok : (b : Bool) (x change : Change) → Ok change ≡ cond b (Ok x) (Err x) → (b ≡ true) × (x ≡ change)
+told_ok true x change e = (refl, sym (ap either e))
+  where
+    either : Result Change Change → Change
+    either (Ok y) = y
+    either (Err y) = y
+told_ok false x change e = absurd (false≢true (sym (ap is_ok e)))
+
+told_err : (b : Bool) (x change : Change) → Err change ≡ cond b (Ok x) (Err x) → b ≡ false
+told_err true x change e = absurd (false≢true (ap is_ok e))
+told_err false x change e = refl
+
+same_change : (w : ChangeAt) (change : Change) → Ok change ≡ change_told w
     → record { found = true; field = change.field; index = change.index; value = change.value; next = w.next } ≡ w
-same_change w change e =
-    let q = cond_some w.found (record { field = w.field; index = w.index; value = w.value }) change (sym e) in rw (← q.1, ← q.0)
+same_change w change e = let q = told_ok w.found (change_read w) change e in rw (← q.1, ← q.0)
 
 module _ (line : List ℕ) (at : ℕ) where
-  pub change_found : (change : Change) → Some change ≡ change_told (change_from line at)
+  pub change_found : (change : Change) → Ok change ≡ change_told (change_from line at)
       → (at < length line)
       × (record { found = true; field = change.field; index = change.index; value = change.value; next = (change_from line at).next } ≡ change_from line at)
+  unfolding change_from
   change_found change e = (within (lt_or_le at (length line)), same_change (change_from line at) change e)
     where
       within : (at < length line) ⊎ (length line ≤ at) → at < length line
       within (inl l) = l
-      within (inr l) =
-          let none = (first_missing line at None (ap number_told (sym (number_beyond line at l))) refl).1 in absurd (none-some change (none ∙ sym e))
+      within (inr l) = absurd (false≢true (sym (ap is_ok (rw (number_beyond line at l, number_past line, number_past line) at e))))
 
-  pub change_lost : None ≡ change_told (change_from line at) → ((change_from line at).found ≡ false) × ((change_from line at).next ≡ length line)
+  pub change_lost : (change : Change) → Err change ≡ change_told (change_from line at)
+      → ((change_from line at).found ≡ false) × ((change_from line at).next ≡ length line)
   unfolding change_from
-  change_lost e = (lost _ _ e, ap (λ (n : NumberAt). n.next) (number_missing line _ (none _ _ _ e)))
-    where
-      lost : (b : Bool) (change : Change) → None ≡ cond b (Some change) None → b ≡ false
-      lost true change e = absurd (none-some change e)
-      lost false change e = refl
-
-      none : (b : Bool) (change : Change) (x : ℕ) → None ≡ cond b (Some change) None → None ≡ cond b (Some x) None
-      none true change x e = absurd (none-some change e)
-      none false change x e = refl
+  change_lost change e =
+      let lost = told_err (change_from line at).found (change_read (change_from line at)) change e in (lost, ap (λ (n : NumberAt). n.next) (number_missing line _ lost))
 
 -- So less is left of the line behind a number or a change.
 module _ (line line' : List ℕ) (at at' : ℕ) (same : line' ≡ line) where
-  pub change_less : (change : Change) → Some change ≡ change_told (change_from line at) → at' ≡ (change_from line at).next
+  pub change_less : (change : Change) → Ok change ≡ change_told (change_from line at) → at' ≡ (change_from line at).next
       → length line' - at' < length line - at
   change_less change e q = let l = (change_found line at change e).0 in rw (same, q) (omega (arith, l, change_after line at l))
 
@@ -304,4 +324,4 @@ module _ (line line' : List ℕ) (at at' : ℕ) (same : line' ≡ line) where
 
 pub ruleset saying = (saying_start, saying_more, saying_small, saying_end)
 
-pub ruleset changing = (first_missing, second_missing, third_missing, none_missing)
+pub ruleset changing = (change_behind, change_whole, change_broken)

@@ -1,4 +1,3 @@
-use mathlib.Core.Path.{refl}
 use native.Mathlib.Omega.{arith}
 use Rattle.text.specs.Decimal.{is_digit}
 use Rattle.testlib_text.proofs.Laws.Lines.{scan_hit, scan_miss, scan_none}
