@@ -1,8 +1,7 @@
-// What a planner types, taken up byte by byte: each line that ends is carried out on the site and the counters as the one before it left them.
+// What a planner types, taken up a line at a time: each that ends is carried out on the site and the counters as the one before it left them.
 #![tactic(auto)]
 
-ghost use Rattle.std.specs.Prelude.{ℕ, ◌+◌, ◌≡◌, List, [], ◌∷◌, leb, length};
-ghost use Rattle.text.specs.Put.{puts};
+ghost use Rattle.std.specs.Prelude.{ℕ, ◌+◌, ◌≡◌, List, leb, length};
 ghost use Rattle.text.specs.Page.{held};
 ghost use Rattle.line_answers.specs.Steps.{answered_to, CarriedAs};
 ghost use Rattle.rehearsal.specs.Desk.{asked_in, HoldsLine, AllTaken};
@@ -24,18 +23,6 @@ pub struct TakenUp {
     pub after: Rehearsal,
     pub taken: usize,
     pub filled: usize,
-}
-
-// Puts a byte of the line behind those that are there; answers how many there are then. A number by itself, and no page, which would have it in memory: a byte has to
-// wait until the number that the one before left there is back.
-fn keep(space: &mut [u8], kept: usize, byte: u8) -> usize
-    ensures { (result, space.new) ≡ puts (kept, space.old) ((byte ∷ []) ∷ []) }
-{
-    if kept < space.len() {
-        space[kept] = byte;
-        return kept + 1;
-    }
-    space.len() + 1
 }
 
 // Carries out the line that the space holds. One that is too long is malformed.
@@ -65,7 +52,7 @@ fn roomy(filled: usize, size: usize) -> bool
     8192 <= size && filled <= size - 8192
 }
 
-// Takes up what was typed, as long as the answers have room. Each line that ends is carried out, and its answer stands behind those before it.
+// Takes up what was typed, a line at a time and as long as the answers have room. Each line that ends is carried out, and its answer stands behind those before it.
 pub fn take_up(
     bytes: &[u8],
     before: Rehearsal,
@@ -76,27 +63,18 @@ pub fn take_up(
     ensures { AllTaken bytes.now space.old out.old (record { site = before.site; counters = counters.old })
         before.kept result.taken (record { site = result.after.site; counters = counters.new }) space.new result.after.kept (result.filled, out.new) }
 {
-    if !roomy(0, out.len()) {
-        return TakenUp {
-            after: before,
-            taken: 0,
-            filled: 0,
-        };
-    }
     let mut site = before.site;
     let mut kept = before.kept;
     let mut answers = Page::over(out);
-    let mut taken = bytes.len();
-    for (i, byte) in bytes.iter().enumerate() {
-        if *byte == b'\n' {
+    let mut taken = 0;
+    while taken < bytes.len() && roomy(answers.taken, answers.space.len()) {
+        let end = line_words::find(bytes, taken, b'\n').unwrap_or(bytes.len());
+        kept = slices::put(space, kept, &bytes[taken..end]);
+        taken = end;
+        if end < bytes.len() {
             site = answer_held(space, kept, site, counters, &mut answers);
             kept = 0;
-            if !roomy(answers.taken, answers.space.len()) {
-                taken = i + 1;
-                break;
-            }
-        } else {
-            kept = keep(space, kept, *byte);
+            taken = end + 1;
         }
     }
     let after = Rehearsal { site, kept };

@@ -1,17 +1,22 @@
--- The line that a space holds, and the bytes that are taken up one by one.
-use Prim.Native.Nat.{ℕ, suc, ◌+◌, ◌≤◌, ◌<◌}
+-- The line that a space holds, and the bytes that are taken up.
+use Prim.Native.Nat.{ℕ, zero, suc, ◌+◌, ◌-◌, ◌≤◌, ◌<◌}
 use mathlib.Core.Path.{◌≡◌, refl, sym, ◌∙◌, ap}
-use mathlib.Core.Bool.{true, false}
-use mathlib.Core.Logic.{inl, inr}
-use mathlib.Core.List.{List, [], ◌∷◌, ◌++◌}
+use mathlib.Core.Bool.{Bool, true, false}
+use mathlib.Core.Logic.{◌⊎◌, inl, inr}
+use mathlib.Core.List.{List, [], ◌∷◌, ◌++◌, append_assoc, append-nil}
 use lib.Dec.{leb}
-use lib.ListN.{length, set, take, drop, get_or, length-append, length-set, drop_of_length-le}
-use lib.Seq.{sets, take-suc-set, drop-cons, length-take-le}
-use borrow.Author.Tests.{le-leb, lt-leb, ne_eqb}
+use lib.ListN.{length, take, drop, get_or, length-append, drop_of_length-le}
+use lib.Seq.{drop-cons, length-take-le}
+use borrow.Author.Tests.{le-leb, lt-leb}
+use native.Mathlib.Nat.{add-zero}
 use native.Mathlib.Omega.{arith}
 use Rattle.lists.proofs.Laws.Search.{lt_or_le}
 use Rattle.slices.specs.Put.{put}
-use Rattle.slices.proofs.Laws.Put.{put_sets, put_room, put_full, put_long}
+use Rattle.slices.proofs.Laws.Put.{put_room, put_full, put_long, paste_all}
+use Rattle.std.specs.Prelude.{Option, Some, None}
+use Rattle.std.specs.Option.{unwrap_or}
+use Rattle.std.proofs.lemmas.List.{take_at}
+use Rattle.line_words.specs.Parts.{is, Reaches, FoundFrom}
 use Rattle.text.specs.Put.{puts}
 use Rattle.text.proofs.Laws.Put.{puts_then, puts_long}
 use Rattle.call_text.specs.Lines.{alone, asked_of}
@@ -19,40 +24,27 @@ use Rattle.guarantee.specs.Runs.{State}
 use Rattle.line_answers.specs.Steps.{malformed_text, carried_out, answered_to, CarriedAs}
 use Rattle.rehearsal.specs.Desk.{Desk, asked_in, fed_byte, taken_up, HoldsLine, Stands, AllTaken}
 
--- A byte more in a space with room, and in one without.
-module _ (space : List ℕ) (kept byte : ℕ) (line : List ℕ) (h : HoldsLine space kept line) where
-  pub holds_more : kept < length space → HoldsLine (set space kept byte) (kept + 1) (line ++ (byte ∷ []))
-  holds_more l = record {
-    whole = λ m. rw (h.whole (omega arith), more) (sym (take-suc-set space kept byte l));
-    longer = λ m. absurd (omega (arith, rw (length-set space kept byte) at m));
-  }
-    where
-      more : kept + 1 ≡ suc kept
-      more = omega arith
+-- More bytes of a line, in a space with room for them and in one without.
+module _ (space : List ℕ) (kept : ℕ) (line : List ℕ) (h : HoldsLine space kept line) where
+  holds_long : length space < kept ⊎ kept ≤ length space → (more : List ℕ) → length space < kept + length more → length space < length (line ++ more)
+  holds_long (inl l) more m = omega (arith, length-append line more, h.longer l)
+  holds_long (inr l) more m = rw (h.whole l) (omega (arith, length-append (take kept space) more, length-take-le kept space l))
 
-  pub holds_no_more : length space ≤ kept → HoldsLine space (length space + 1) (line ++ (byte ∷ []))
-  holds_no_more l = record {
-    whole = λ m. absurd (omega arith);
-    longer = λ m. omega (arith, length-append line (byte ∷ []), as_long);
-  }
-    where
-      as_long : length space ≤ length line
-      as_long = elim (lt_or_le (length space) kept) [
-        | inl m ↦ omega (arith, h.longer m)
-        | inr m ↦ rw (h.whole m) (omega (arith, length-take-le kept space m))
-      ]
-
-  pub holds_put : (kept' : ℕ) (space' : List ℕ) → (kept', space') ≡ put (kept, space) (byte ∷ []) → HoldsLine space' kept' (line ++ (byte ∷ []))
-  holds_put kept' space' e = elim (lt_or_le kept (length space)) [
+  pub holds_put : (more space' : List ℕ) (kept' : ℕ) → (kept', space') ≡ put (kept, space) more → HoldsLine space' kept' (line ++ more)
+  holds_put more space' kept' e = elim (lt_or_le (length space) (kept + length more)) [
     | inl l ↦
-        let now : space' ≡ sets space kept (byte ∷ []) = put_sets kept kept' space (byte ∷ []) space' (omega arith) e in
-        let count : kept' ≡ kept + 1 = ap (λ (s : ℕ × List ℕ). s.0) (e ∙ put_room kept space (byte ∷ []) (omega arith)) in
-        rw (count, now) (holds_more l)
-    | inr m ↦
-        let all : ◌≡◌ {A = ℕ × List ℕ} (kept', space') (length space + 1, space) = e ∙ put_full kept space (byte ∷ []) (omega arith) in
-        let now : space' ≡ space = ap (λ (s : ℕ × List ℕ). s.1) all in
-        let count : kept' ≡ length space + 1 = ap (λ (s : ℕ × List ℕ). s.0) all in
-        rw (count, now) (holds_no_more m)
+        let all : ◌≡◌ {A = ℕ × List ℕ} (kept', space') (length space + 1, space) = e ∙ put_full kept space more l in
+        rw (ap (λ (s : ℕ × List ℕ). s.0) all, ap (λ (s : ℕ × List ℕ). s.1) all)
+        (record { whole = λ m. absurd (omega arith); longer = λ m. holds_long (lt_or_le (length space) kept) more l })
+    | inr l ↦
+        let all : ◌≡◌ {A = ℕ × List ℕ} (kept', space') (kept + length more, take kept space ++ more ++ drop (kept + length more) space) =
+        e ∙ put_room kept space more l in
+        rw (ap (λ (s : ℕ × List ℕ). s.0) all, ap (λ (s : ℕ × List ℕ). s.1) all) (record {
+          whole = λ m. rw (h.whole (omega arith))
+              (sym (take_at (take kept space ++ more) (drop (kept + length more) space) (kept + length more)
+              (length-append (take kept space) more ∙ ap (λ (k : ℕ). k + length more) (length-take-le kept space (omega arith)))));
+          longer = λ m. absurd (omega (arith, rw (paste_all kept space more l) at m));
+        })
   ]
 
 pub holds_nothing : (space : List ℕ) → HoldsLine space 0 []
@@ -79,7 +71,30 @@ some_line space kept = elim (lt_or_le (length space) kept) [
   | inr l ↦ (take kept space, record { whole = λ m. refl; longer = λ m. absurd (omega arith) })
 ]
 
--- Bytes taken up one by one: what stands after the first i of them goes on to what all of them come to.
+-- A search that finds nothing comes to the end.
+pub found_reaches : (mark : ℕ → Bool) (text : List ℕ) (from : ℕ) (o : Option ℕ) → FoundFrom mark text from o → Reaches mark text from (unwrap_or o (length text))
+found_reaches mark text from (Some at) f = f.1
+found_reaches mark text from None f = f
+
+-- Bytes that end no line are taken up where one of them is, since they have no answer.
+abbrev longer : Desk → List ℕ → Desk
+longer d more = record { calls = d.calls; state = d.state; line = d.line ++ more; text = d.text }
+
+module _ (room : ℕ) (s : ℕ × List ℕ) (bytes : List ℕ) where
+  run_taken : (n i : ℕ) (d : Desk) → i + n ≤ length bytes → ((k : ℕ) → i ≤ k → k < i + n → is 10 (get_or bytes k 0) ≡ false)
+      → leb ((puts s d.text).0 + 8192) (length s.1) ≡ true
+      → taken_up room s d (drop i bytes) ≡ taken_up room s (longer d (take n (drop i bytes))) (drop (i + n) bytes)
+  unfolding taken_up fed_byte
+  run_taken zero i d l other free = rw (add-zero i, append-nil d.line)
+  run_taken (suc n) i d l other free =
+      let same : suc i + n ≡ i + suc n = omega arith in
+      let next : Desk = longer d (get_or bytes i 0 ∷ []) in
+      let ih : taken_up room s next (drop (suc i) bytes) ≡ taken_up room s (longer next (take n (drop (suc i) bytes))) (drop (suc i + n) bytes) =
+      run_taken n (suc i) next (omega arith) (λ k a b. other k (omega arith) (omega arith)) free in
+      rw (drop-cons bytes i 0 (omega arith), free, other i (omega arith) (omega arith))
+      (rw (same, append_assoc d.line (get_or bytes i 0 ∷ []) (take n (drop (suc i) bytes))) at ih)
+
+-- Bytes taken up: what stands after the first i of them goes on to what all of them come to.
 pub record TakingUp (bytes space₀ out₀ : List ℕ) (σ₀ : State) (kept₀ i : ℕ) (σ : State) (space : List ℕ) (kept : ℕ) (t : ℕ × List ℕ) : Type 0 where
   pub within : i ≤ length bytes
   pub space_long : length space ≡ length space₀
@@ -125,23 +140,30 @@ module _ (bytes space₀ out₀ : List ℕ) (σ₀ : State) (kept₀ : ℕ) wher
             → (e : Desk) × Stands (0, out₀) e σ' space 0 t × (taken_up (length space₀) (0, out₀) e (drop (i + 1) bytes) ≡ all)
         go (e, h, q) = (fed_byte (length space₀) e (get_or bytes i 0), answered e h, next_byte e h l room ∙ q)
 
-    pub taking_byte : i < length bytes → leb (filled + 8192) (length out) ≡ true → (get_or bytes i 0 ≡ 10 → ⊥)
-        → (space' : List ℕ) (kept' : ℕ) → (kept', space') ≡ puts (kept, space) ((get_or bytes i 0 ∷ []) ∷ [])
-        → TakingUp bytes space₀ out₀ σ₀ kept₀ (i + 1) σ space' kept' (filled, out)
-    unfolding fed_byte puts
-    taking_byte l room other space' kept' g = record {
-      within = omega arith;
-      space_long = ap (λ (s : ℕ × List ℕ). length s.1) g ∙ put_long (kept, space) (get_or bytes i 0 ∷ []) ∙ w.space_long;
+    -- The bytes before the next newline, or all that are left.
+    pub taking_run : i < length bytes → leb (filled + 8192) (length out) ≡ true → (end : ℕ) → Reaches (is 10) bytes i end
+        → (space' : List ℕ) (kept' : ℕ) → (kept', space') ≡ put (kept, space) (take (end - i) (drop i bytes))
+        → TakingUp bytes space₀ out₀ σ₀ kept₀ end σ space' kept' (filled, out)
+    taking_run l room end r space' kept' g = record {
+      within = r.within;
+      space_long = ap (λ (s : ℕ × List ℕ). length s.1) g ∙ put_long (kept, space) (take (end - i) (drop i bytes)) ∙ w.space_long;
       out_long = w.out_long;
       goes = λ d h. go (w.goes d h);
     }
       where
-        typed : (e : Desk) → Stands (0, out₀) e σ space kept (filled, out) → Stands (0, out₀) (fed_byte (length space₀) e (get_or bytes i 0)) σ space' kept' (filled, out)
-        typed e h = rw (ne_eqb _ _ other) (record { at = record { state = h.at.state; held = holds_put space kept (get_or bytes i 0) e.line h.at.held kept' space' g }; handed = h.handed })
+        onward : i + (end - i) ≡ end
+        onward = omega (arith, r.onward)
 
         go : {all : Desk × List ℕ} → (e : Desk) × Stands (0, out₀) e σ space kept (filled, out) × (taken_up (length space₀) (0, out₀) e (drop i bytes) ≡ all)
-            → (e : Desk) × Stands (0, out₀) e σ space' kept' (filled, out) × (taken_up (length space₀) (0, out₀) e (drop (i + 1) bytes) ≡ all)
-        go (e, h, q) = (fed_byte (length space₀) e (get_or bytes i 0), typed e h, next_byte e h l room ∙ q)
+            → (e : Desk) × Stands (0, out₀) e σ space' kept' (filled, out) × (taken_up (length space₀) (0, out₀) e (drop end bytes) ≡ all)
+        go (e, h, q) =
+            let test : leb ((puts (0, out₀) e.text).0 + 8192) (length out₀) ≡ true = rw (← h.handed, ← w.out_long) room in
+            let run = run_taken (length space₀) (0, out₀) bytes (end - i) i e (omega (arith, r.onward, r.within))
+            (λ k a b. r.passed k a (omega (arith, r.onward))) test in (
+              longer e (take (end - i) (drop i bytes)),
+              record { at = record { state = h.at.state; held = holds_put space kept e.line h.at.held _ space' kept' g }; handed = h.handed },
+              sym (rw onward at run) ∙ q,
+            )
 
     -- Where no byte is left, or no room, what stands is what all come to.
     pub taken_all : length bytes ≤ i → AllTaken bytes space₀ out₀ σ₀ kept₀ i σ space kept (filled, out)
@@ -152,17 +174,14 @@ module _ (bytes space₀ out₀ : List ℕ) (σ₀ : State) (kept₀ : ℕ) wher
             → Stands (0, out₀) all.0 σ space kept (filled, out) × (drop i bytes ≡ all.1)
         go (e, h, q) = let none : drop i bytes ≡ [] = drop_of_length-le bytes l in rw (← q, none) (h, refl)
 
-    pub taken_full : leb (filled + 8192) (length out) ≡ false → AllTaken bytes space₀ out₀ σ₀ kept₀ i σ space kept (filled, out)
+    pub taken_full : i < length bytes → leb (filled + 8192) (length out) ≡ false → AllTaken bytes space₀ out₀ σ₀ kept₀ i σ space kept (filled, out)
     unfolding taken_up
-    taken_full full = (w.within, λ d h. go (w.goes d h))
+    taken_full l full = (w.within, λ d h. go (w.goes d h))
       where
         stays : (e : Desk) → Stands (0, out₀) e σ space kept (filled, out) → taken_up (length space₀) (0, out₀) e (drop i bytes) ≡ (e, drop i bytes)
-        stays e h = elim (lt_or_le i (length bytes)) [
-          | inl l ↦
-              let test : leb ((puts (0, out₀) e.text).0 + 8192) (length out₀) ≡ false = rw (← h.handed, ← w.out_long) full in
-              rw (drop-cons bytes i 0 l, test)
-          | inr l ↦ rw (drop_of_length-le bytes l)
-        ]
+        stays e h =
+            let test : leb ((puts (0, out₀) e.text).0 + 8192) (length out₀) ≡ false = rw (← h.handed, ← w.out_long) full in
+            rw (drop-cons bytes i 0 l, test)
 
         go : {all : Desk × List ℕ} → (e : Desk) × Stands (0, out₀) e σ space kept (filled, out) × (taken_up (length space₀) (0, out₀) e (drop i bytes) ≡ all)
             → Stands (0, out₀) all.0 σ space kept (filled, out) × (drop i bytes ≡ all.1)

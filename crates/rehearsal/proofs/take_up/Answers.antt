@@ -1,49 +1,42 @@
 use borrow.Author.Rules.{rules}
 use Prim.Native.Nat.{◌+◌}
 use mathlib.Core.Path.{◌≡◌, refl}
-use mathlib.Core.Bool.{false}
+use mathlib.Core.Bool.{true, false}
 use lib.Dec.{leb}
 use lib.ListN.{length}
-use native.Mathlib.Omega.{arith}
-use Rattle.rehearsal.proofs.Laws.Typing.{taking_none, taking_line, taking_byte, taken_all, taken_full, taken_of_lent}
+use Rattle.line_words.specs.Parts.{is, Reaches}
+use Rattle.rehearsal.proofs.Laws.Typing.{found_reaches, taking_run, taking_line, taken_all, taken_full, taken_of_lent}
 use Rattle.rehearsal.proofs.take_up.Goals as goal
-use Rattle.rehearsal.proofs.take_up.Goals.{else-byte-eq10, then-byte-eq10+else-not-roomy-2, else-loop-i-test, then-loop-i-test+then-byte-eq10+then-not-roomy-2}
+use Rattle.rehearsal.proofs.take_up.Goals.{then-loop-taken-test+else-roomy, else-loop-taken-test}
 
-pub returns-then-not-roomy : goal.returns-then-not-roomy
-returns-then-not-roomy c =
-    let full : leb (0 + 8192) (length c.args.out.now) ≡ false = search rules in
-    taken_full _ _ _ _ _ _ _ _ _ _ _ (taking_none _ _ _ _ _) full
+pub loop-taken-preserved-then-end-bytes : goal.loop-taken-preserved-then-end-bytes
+loop-taken-preserved-then-end-bytes c =
+    let room : leb (c.loop-taken.answers.taken + 8192) (length c.loop-taken.answers.space.now) ≡ true = search rules in
+    let ends : Reaches (is 10) c.args.bytes.now c.loop-taken.taken c.unwrap_or-end.result = rw c.unwrap_or-end.ensures (found_reaches _ _ _ _ c.find.ensures) in
+    let run = taking_run _ _ _ _ _ _ _ _ _ _ _ c.loop-taken.invariant.going c.loop-taken-test.true room _ ends _ _ c.put-kept.ensures in
+    record {
+      going = taking_line _ _ _ _ _ _ _ _ _ _ _ run c.if-end-bytes.true room (search (rules, ends.marked c.if-end-bytes.true)) _ _ c.answer_held-site.ensures.carried;
+      answers_same = search rules;
+      counters_long = search rules;
+    }
 
-pub loop-i-preserved : goal.loop-i-preserved
-loop-i-preserved c =
-    elim c.if-byte-eq10.branch [
-      | then-byte-eq10+else-not-roomy-2 w ↦ rw (w.space-is, w.counters-is, w.answers-is, w.site-is, w.kept-is) (record {
-        going = taking_line _ _ _ _ _ _ _ _ _ _ _ c.loop-i.invariant.going c.loop-i-test.true c.loop-i.invariant.room w.if-byte-eq10.true _ _
-            w.answer_held-site.ensures.carried;
-        room = search rules;
-        answers_same = search rules;
-        counters_long = search rules;
-        all = search rules;
-      })
-      | else-byte-eq10 w ↦ rw (w.space-is, w.counters-is, w.answers-is, w.site-is, w.kept-is) (record {
-        going = taking_byte _ _ _ _ _ _ _ _ _ _ _ c.loop-i.invariant.going c.loop-i-test.true c.loop-i.invariant.room w.if-byte-eq10.false _ _ w.keep-kept.ensures;
-        room = search rules;
-        answers_same = search rules;
-        counters_long = search rules;
-        all = search rules;
-      })
-    ]
+pub loop-taken-preserved : goal.loop-taken-preserved
+loop-taken-preserved c =
+    let room : leb (c.loop-taken.answers.taken + 8192) (length c.loop-taken.answers.space.now) ≡ true = search rules in
+    let ends : Reaches (is 10) c.args.bytes.now c.loop-taken.taken c.unwrap_or-end.result = rw c.unwrap_or-end.ensures (found_reaches _ _ _ _ c.find.ensures) in
+    record {
+      going = taking_run _ _ _ _ _ _ _ _ _ _ _ c.loop-taken.invariant.going c.loop-taken-test.true room _ ends _ _ c.put-kept.ensures;
+      answers_same = search rules;
+      counters_long = search rules;
+    }
 
 pub returns : goal.returns
 returns c =
-    elim c.loop-i-test.branch [
-      | else-loop-i-test w ↦ rw (w.counters-is, w.answers-is, w.site-is, w.kept-is)
-          (taken_of_lent _ _ _ _ _ _ _ _ _ _ _ (taken_all _ _ _ _ _ _ _ _ _ _ _ c.loop-i.invariant.going w.loop-i-test.false)
-          _ _ _ _ _ _ _ refl c.over-answers.ensures.empty (search rules) (search rules) (omega arith))
-      | then-loop-i-test+then-byte-eq10+then-not-roomy-2 w ↦
-          let line = taking_line _ _ _ _ _ _ _ _ _ _ _ c.loop-i.invariant.going w.loop-i-test.true c.loop-i.invariant.room w.if-byte-eq10.true _ _
-          w.answer_held-site.ensures.carried in
-          rw (w.counters-is, w.answers-is, w.site-is, w.kept-is)
-          (taken_of_lent _ _ _ _ _ _ _ _ _ _ _ (taken_full _ _ _ _ _ _ _ _ _ _ _ line (search rules))
-          _ _ _ _ _ _ _ refl c.over-answers.ensures.empty (search rules) (search rules) w.taken-is)
+    elim c.loop-taken-test.branch [
+      | then-loop-taken-test+else-roomy w ↦
+          let full : leb (c.loop-taken.answers.taken + 8192) (length c.loop-taken.answers.space.now) ≡ false = search rules in
+          taken_of_lent _ _ _ _ _ _ _ _ _ _ _ (taken_full _ _ _ _ _ _ _ _ _ _ _ c.loop-taken.invariant.going w.loop-taken-test.true full)
+          _ _ _ _ _ _ _ refl c.over-answers.ensures.empty (search rules) (search rules) refl
+      | else-loop-taken-test w ↦ taken_of_lent _ _ _ _ _ _ _ _ _ _ _ (taken_all _ _ _ _ _ _ _ _ _ _ _ c.loop-taken.invariant.going w.loop-taken-test.false)
+          _ _ _ _ _ _ _ refl c.over-answers.ensures.empty (search rules) (search rules) refl
     ]
