@@ -151,15 +151,33 @@ fn weaken(top: &Path, owner: &str, function: &str) -> Result<(), String> {
     Ok(())
 }
 
+/// The answers and invariants of the function, so that `rt` looks for them by itself.
+fn leave_out_proofs(top: &Path, owner: &str, function: &str) -> Result<(), String> {
+    let folder = top.join("crates").join(owner).join("proofs").join(function);
+    match folder.is_dir() {
+        true => fs::remove_dir_all(&folder).map_err(in_words(&folder)),
+        false => Ok(()),
+    }
+}
+
 impl Trial {
     fn function(&self) -> String {
         format!("{}::{}", self.law.owner, self.law.function)
     }
 
-    /// The law is the only one of its crate, which uses no more than the law needs.
+    /// As `rt` names it where it is not proved.
+    fn unproved_name(&self) -> String {
+        self.function().replace('/', "::")
+    }
+
+    /// The law is the only one of its crate, which has no other proofs and uses no more than the law needs.
     fn leave_alone(&self, top: &Path) -> Result<(), String> {
         let (file, listed) = (top.join(laws_file(self.reader)), top.join(LISTED));
         let (text, needed) = alone(&read_text(&file)?, &self.law.name)?;
+        let proofs = file.parent().unwrap_or(top);
+        fs::remove_dir_all(proofs).map_err(in_words(proofs))?;
+        fs::create_dir(proofs).map_err(in_words(proofs))?;
+        write(&proofs.join("Lib.antt"), "pub mod Laws\n")?;
         write(&file, &text)?;
         let fewer = with_fewer_uses(&read_text(&listed)?, self.reader, &needed);
         write(&listed, &fewer)
@@ -180,26 +198,31 @@ impl Trial {
         }
     }
 
-    /// Weakens the function, and then those of its crate that are not proved any more, until the crate is proved: the first error, and these callers.
+    /// Weakens the function, and then those of its crate that are not proved any more, until the crate is proved: the first error, and these callers. What the
+    /// loops of a caller keep is left out too, where it is not proved though it promises nothing.
     fn weaken_all(&self, top: &Path) -> Result<(Option<Refused>, Vec<String>), String> {
         let owner = &self.law.owner;
         weaken(top, owner, &self.law.function)?;
-        let (mut first, mut weakened) = (None, vec![self.function()]);
+        let (mut first, mut weakened, mut bare) = (None, Vec::new(), Vec::new());
         loop {
             let checked = check(top, owner)?;
             let Some(refused) = checked.refused else {
-                weakened.remove(0);
                 return Ok((first, weakened));
             };
-            let is_new = |name: &&String| !weakened.contains(name);
-            let callers: Vec<String> = checked.unproved.iter().filter(is_new).cloned().collect();
-            if callers.is_empty() || checked.unproved.len() > callers.len() {
+            let callers = checked.unproved;
+            let is_stuck = |name: &String| bare.contains(name) || *name == self.unproved_name();
+            if callers.is_empty() || callers.iter().any(is_stuck) {
                 return Err(format!("not well weakened: {}", refused.error));
             }
             for caller in callers {
-                let function = caller.split("::").last().unwrap_or_default();
-                weaken(top, owner, function)?;
-                weakened.push(caller);
+                let function = caller[owner.len() + 2..].replace("::", "/");
+                if weakened.contains(&caller) {
+                    leave_out_proofs(top, owner, &function)?;
+                    bare.push(caller);
+                } else {
+                    weaken(top, owner, &function)?;
+                    weakened.push(caller);
+                }
             }
             first = first.or(Some(refused));
         }
