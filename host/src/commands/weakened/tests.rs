@@ -2,7 +2,9 @@ use super::checks::{read, Checked, Refused};
 use super::texts::{
     alone, crates_below, laws, weaken_answers, weaken_promise, with_fewer_uses, Law,
 };
+use super::{Copies, Trial};
 use std::collections::BTreeSet;
+use std::fs;
 
 const CODE: &str = "\
 // Lets flows in.
@@ -139,6 +141,18 @@ admit_all-requires c = c.requires
 fn no_return_has_an_answer() {
     assert_eq!(weaken_answers(ANSWERS), WEAKENED);
     assert_eq!(weaken_answers(WEAKENED), WEAKENED);
+}
+
+/// Only the answers at returns named the place of the other way out.
+#[test]
+fn places_that_no_answer_names_are_not_imported() {
+    let uses = "use Rattle.desk.proofs.admit.Goals.{then-free, then-free+else-late}\n";
+    let kept = "\npub loop-i-preserved : goal.loop-i-preserved\nloop-i-preserved c =\n    elim c.if-free.branch [\n      | then-free w ↦ refl\n    ]\n";
+    let returns = "\npub returns : goal.returns\nreturns c =\n    elim c.if-free.branch [\n      | then-free+else-late w ↦ refl\n    ]\n";
+    let fewer = uses.replace(", then-free+else-late", "");
+    let weakened = weaken_answers(&format!("{uses}{kept}{returns}"));
+    assert_eq!(weakened.trim_end(), format!("{fewer}{kept}").trim_end());
+    assert!(!weaken_answers(&format!("{uses}{returns}")).contains("use "));
 }
 
 const LAWS: &str = "\
@@ -319,4 +333,34 @@ fn only_a_verdict_of_the_prover_is_a_refusal() {
         assert!(read(PRINTED, "contracts", status).is_err());
     }
     assert!(read(proved, "hall", Some(1)).is_err());
+}
+
+/// Other proofs of the crate may need crates that the law does not.
+#[test]
+fn no_other_proofs_stay_beside_a_law_alone() {
+    let copies = Copies::new().unwrap();
+    let proofs = copies.0.join("crates/contracts/proofs");
+    fs::create_dir_all(proofs.join("Facts")).unwrap();
+    for (name, text) in [
+        ("Lib.antt", "pub mod Laws\npub mod Facts\n"),
+        ("Laws.antt", LAWS),
+        ("Facts.antt", "pub mod Plans\n"),
+        ("Facts/Plans.antt", "use Rattle.hall.specs.Words.{short}\n"),
+    ] {
+        fs::write(proofs.join(name), text).unwrap();
+    }
+    fs::write(copies.0.join("crates.txt"), LISTED).unwrap();
+    let law = law("admitting", "desk", "admit");
+    let trial = Trial {
+        reader: "contracts",
+        law,
+    };
+    trial.leave_alone(&copies.0).unwrap();
+    let entries = fs::read_dir(&proofs).unwrap();
+    let left: BTreeSet<String> = entries
+        .map(|entry| entry.unwrap().file_name().into_string().unwrap())
+        .collect();
+    assert_eq!(left, names(&["Laws.antt", "Lib.antt"]));
+    let modules = fs::read_to_string(proofs.join("Lib.antt")).unwrap();
+    assert_eq!(modules, "pub mod Laws\n");
 }

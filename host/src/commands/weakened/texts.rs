@@ -74,6 +74,20 @@ fn is_of_return(line: &str) -> bool {
     name == "returns" || name.starts_with("returns-")
 }
 
+/// The import of places in the code without those that no answer names: with the answers at returns `rt` leaves places out.
+fn with_fewer_places(line: &str, answers: &str) -> Option<String> {
+    let places = line.split_once(".Goals.{").and_then(|(path, rest)| {
+        let places = rest.strip_suffix('}')?;
+        Some((path, places))
+    });
+    let Some((path, places)) = places else {
+        return Some(line.to_string());
+    };
+    let is_named = |place: &&str| answers.contains(&format!("| {place} "));
+    let named: Vec<&str> = places.split(", ").filter(is_named).collect();
+    (!named.is_empty()).then(|| format!("{path}.Goals.{{{}}}", named.join(", ")))
+}
+
 /// The answers without those at returns, where `rt` finds by itself that nothing is to be proved. An answer goes up to the next blank line.
 pub fn weaken_answers(answers: &str) -> String {
     let mut lines = Vec::new();
@@ -85,7 +99,11 @@ pub fn weaken_answers(answers: &str) -> String {
             lines.push(line);
         }
     }
-    lines.join("\n") + "\n"
+    let kept = lines.join("\n");
+    let lines = lines
+        .iter()
+        .filter_map(|line| with_fewer_places(line, &kept));
+    lines.collect::<Vec<String>>().join("\n") + "\n"
 }
 
 /// Whether a line of the declaration has a word that comes by this import.
