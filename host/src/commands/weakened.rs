@@ -11,7 +11,9 @@ use checks::{check, Checked, Refused};
 use std::fs;
 use std::path::{Path, PathBuf};
 use std::time::Instant;
-use texts::{alone, crates_below, laws, weaken_answers, weaken_promise, with_fewer_uses, Law};
+use texts::{
+    alone, calls, crates_below, laws, name_of, weaken_answers, weaken_promise, with_fewer_uses, Law,
+};
 
 /// The crates whose laws read contracts.
 const READERS: [&str; 2] = ["contracts", "slotplan_lib"];
@@ -122,11 +124,6 @@ fn trials(top: &Path, crates: &[&str]) -> Result<Vec<Trial>, String> {
     Ok(trials)
 }
 
-/// A function's name without the type that a method stands behind.
-fn name_of(function: &str) -> &str {
-    function.rsplit('/').next().unwrap_or(function)
-}
-
 /// The function promises nothing, and no answer says why it returns what it promises. A method is named behind its type, as its proofs stand: `Site/is_live`.
 fn weaken(top: &Path, owner: &str, function: &str) -> Result<(), String> {
     let name = name_of(function);
@@ -198,8 +195,8 @@ impl Trial {
         }
     }
 
-    /// Weakens the function, and then those of its crate that are not proved any more, until the crate is proved: the first error, and these callers. What the
-    /// loops of a caller keep is left out too, where it is not proved though it promises nothing.
+    /// Weakens the function, and then those of its crate that are not proved any more, until the crate is proved: the first error, and these callers. All answers
+    /// and invariants of a caller are left out too, where it is not proved though it promises nothing.
     fn weaken_all(&self, top: &Path) -> Result<(Option<Refused>, Vec<String>), String> {
         let owner = &self.law.owner;
         weaken(top, owner, &self.law.function)?;
@@ -215,7 +212,10 @@ impl Trial {
                 return Err(format!("not well weakened: {}", refused.error));
             }
             for caller in callers {
-                let function = caller[owner.len() + 2..].replace("::", "/");
+                let of_owner = caller.strip_prefix(&format!("{owner}::"));
+                let Some(function) = of_owner.map(|name| name.replace("::", "/")) else {
+                    return Err(format!("not well weakened: {}", refused.error));
+                };
                 if weakened.contains(&caller) {
                     leave_out_proofs(top, owner, &function)?;
                     bare.push(caller);
@@ -242,23 +242,16 @@ impl Trial {
         })
     }
 
-    /// By its path, by its name that is imported, or as a method.
-    fn is_called_in(&self, code: &str) -> bool {
-        let function = self.function();
-        let mut calls = vec![format!("{function}("), format!("{function};")];
-        if self.law.function.contains('/') {
-            calls.push(format!(".{}(", name_of(&self.law.function)));
-        }
-        calls.iter().any(|call| code.contains(call))
-    }
-
     /// The first crate that calls the function and is refused.
     fn caller_refused(&self, top: &Path, base: &Path) -> Result<Option<Refused>, String> {
         let listed = read_text(&base.join(LISTED))?;
         let below = crates_below(&listed, self.reader);
         for name in below {
             let code = sources(top, std::slice::from_ref(&name), &["src"], ".rt")?;
-            if code.iter().any(|file| self.is_called_in(&file.text)) {
+            let Law {
+                owner, function, ..
+            } = &self.law;
+            if code.iter().any(|file| calls(&file.text, owner, function)) {
                 let refused = check(top, &name)?.refused;
                 if refused.is_some() {
                     return Ok(refused);

@@ -1,6 +1,6 @@
 use super::checks::{read, Checked, Refused};
 use super::texts::{
-    alone, crates_below, laws, weaken_answers, weaken_promise, with_fewer_uses, Law,
+    alone, calls, crates_below, laws, weaken_answers, weaken_promise, with_fewer_uses, Law,
 };
 use super::{Copies, Trial};
 use std::collections::BTreeSet;
@@ -333,6 +333,26 @@ fn only_a_verdict_of_the_prover_is_a_refusal() {
         assert!(read(PRINTED, "contracts", status).is_err());
     }
     assert!(read(proved, "hall", Some(1)).is_err());
+}
+
+#[test]
+fn calls_are_found_by_path_by_import_and_as_methods() {
+    for code in [
+        "desk::admit(flow);",
+        "use desk::admit;",
+        "use desk::{admit, Asked};",
+        "use desk::{\n    Asked,\n    admit,\n};",
+    ] {
+        assert!(calls(code, "desk", "admit"), "{code}");
+    }
+    for code in [
+        "use desk::{admit_all, Asked};",
+        "use hall::{admit};",
+        "admit(flow);",
+    ] {
+        assert!(!calls(code, "desk", "admit"), "{code}");
+    }
+    assert!(calls("desk.count()", "desk", "Desk/count"));
 }
 
 /// Other proofs of the crate may need crates that the law does not.

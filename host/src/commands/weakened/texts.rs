@@ -74,6 +74,28 @@ fn is_of_return(line: &str) -> bool {
     name == "returns" || name.starts_with("returns-")
 }
 
+/// A function's name without the type that a method stands behind.
+pub fn name_of(function: &str) -> &str {
+    function.rsplit('/').next().unwrap_or(function)
+}
+
+/// The code calls the function: by its path, by its name that is imported, alone or in a list, or as a method.
+pub fn calls(code: &str, owner: &str, function: &str) -> bool {
+    let mut calls = vec![
+        format!("{owner}::{function}("),
+        format!("{owner}::{function};"),
+    ];
+    if function.contains('/') {
+        calls.push(format!(".{}(", name_of(function)));
+    }
+    let list = format!("use {owner}::{{");
+    let is_listed = |rest: &str| {
+        let names = rest.split('}').next().unwrap_or_default();
+        names.split(',').any(|name| name.trim() == function)
+    };
+    calls.iter().any(|call| code.contains(call)) || code.split(&list).skip(1).any(is_listed)
+}
+
 /// The import of places in the code without those that no answer names: with the answers at returns `rt` leaves places out.
 fn with_fewer_places(line: &str, answers: &str) -> Option<String> {
     let places = line.split_once(".Goals.{").and_then(|(path, rest)| {
@@ -83,7 +105,9 @@ fn with_fewer_places(line: &str, answers: &str) -> Option<String> {
     let Some((path, places)) = places else {
         return Some(line.to_string());
     };
-    let is_named = |place: &&str| answers.contains(&format!("| {place} "));
+    let is_name_in = |line: &str, place: &str| line.split([' ', '(', ')', ',']).any(|a| a == place);
+    let others = answers.lines().filter(|line| !line.starts_with("use "));
+    let is_named = |place: &&str| others.clone().any(|line| is_name_in(line, place));
     let named: Vec<&str> = places.split(", ").filter(is_named).collect();
     (!named.is_empty()).then(|| format!("{path}.Goals.{{{}}}", named.join(", ")))
 }
