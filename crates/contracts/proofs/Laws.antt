@@ -75,6 +75,8 @@ use Rattle.judgement.proofs.refusal.Reads as site-refusals
 use Rattle.report_lines.proofs.put_refusal.Reads as put-refusals
 use Rattle.report_lines.proofs.put_refusal_line.Reads as put-lines
 use Rattle.report_lines.proofs.deliver.Reads as deliveries
+use Rattle.testlib_text.specs.Lines.{change_from, change_told}
+use Rattle.testlib_text.proofs.Numbers.next_change.Reads as changes
 
 pub slot_ruling_lem : (κs : _) (a : _) (r : _) (x : _) → slot-rules.Post κs a r x
     → (outcome r, x.1.0.now, x.1.1.0.now) ≡ assigned 2 a.0.now a.1.0.now a.1.1.0.now
@@ -223,3 +225,9 @@ refusal_line_put κs a r x p = p
 pub text_delivered : (κs : _) (a : _) (r : _) (x : _) → deliveries.Post κs a r x
     → (outcome r, x.1.1.0.now) ≡ written (take a.1.0 a.0.now) a.1.1.0.now
 text_delivered κs a r x p = p
+
+-- What a line of a test has of a change, also of one that breaks off: no caller reads that.
+pub change_reading : (κs : _) (a : _) (r : _) (x : _) → changes.Post κs a r x
+    → (x.0.now.line.now ≡ a.0.now.line.now) × (x.0.now.at ≡ (change_from a.0.now.line.now a.0.now.at).next)
+    × (r ≡ change_told (change_from a.0.now.line.now a.0.now.at))
+change_reading κs a r x p = (p.0, p.1.0, p.1.1)

@@ -8,13 +8,14 @@ use lib.ListN.{length, get_or, take, drop, length-take, length-drop}
 use lib.Seq.{take_all}
 use borrow.Author.Tests.{not-true, not-false}
 use native.Mathlib.Omega.{arith}
-use Rattle.std.specs.Prelude.{Option, Some, IfSome}
+use Rattle.std.specs.Prelude.{Option, Some, IfSome, Ok, Err}
 use Rattle.lists.specs.Lists.{same}
+use Rattle.lists.specs.Search.{first}
 use Rattle.site.specs.declared.Site.{Site}
 use Rattle.site.specs.Sites.{live}
 use Rattle.reservations.specs.Reservations.{delay_bound}
 use Rattle.slices.specs.Put.{put}
-use Rattle.text.specs.Decimal.{value_of, is_number}
+use Rattle.text.specs.Decimal.{value_from, value_of, is_digit, is_number}
 use Rattle.text.specs.Letters.{letters}
 use Rattle.line_words.specs.declared.Operand.{Operand}
 use Rattle.line_words.specs.Parts.{is, Reaches}
@@ -30,6 +31,7 @@ use Rattle.typed_line.specs.Lines.{Typed, Nothing, Node, Flow, Bad}
 use Rattle.typed_plan.specs.Assemble.{Assembled, Length, BadLine, Short, Long}
 use Rattle.site_report.specs.Report.{flow_text, flow_line, flow_line_if}
 use Rattle.printing.specs.Printed.{front}
+use Rattle.testlib_text.specs.Lines.{scanned, number_from, change_from, change_told}
 use Rattle.testlib_text.specs.Printed.{shown, line_shown}
 
 -- The next word of a line, read as a number, is the operand of the definition, with the index behind that word.
@@ -122,3 +124,12 @@ flow_live s n bound e b = rw (b, e)
 pub line_shown_lem : (s : ℕ × List ℕ) (n r : ℕ) (out : List ℕ) → (n, out) ≡ put s (10 ∷ []) → r ≡ front n (length out) → (r, out) ≡ line_shown s
 unfolding line_shown
 line_shown_lem s n r out e q = ap (λ (k : ℕ). (k, out)) q ∙ ap (λ (t : ℕ × List ℕ). shown t) e
+
+-- A change that is complete, and one that breaks off behind its index: what was read of it is told.
+pub change_complete : change_told (change_from (letters "3 17 300") 0) ≡ Ok (record { field = 3; index = 17; value = 300 })
+unfolding first is_digit value_from value_of scanned number_from change_from
+change_complete = refl
+
+pub change_cut : change_told (change_from (letters "3 17") 0) ≡ Err (record { field = 3; index = 17; value = 0 })
+unfolding first is_digit value_from value_of scanned number_from change_from
+change_cut = refl

@@ -1,3 +1,4 @@
+-- Right because each number is read behind the one before, and the third is there just where the change is complete.
 use mathlib.Core.Path.{◌∙◌, ap}
 use mathlib.Core.Bool.{not}
 use Rattle.testlib_text.proofs.Laws.Lines.{change_behind, change_whole, change_broken}
