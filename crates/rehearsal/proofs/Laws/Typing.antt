@@ -5,14 +5,14 @@ use mathlib.Core.Bool.{Bool, true, false}
 use mathlib.Core.Logic.{◌⊎◌, inl, inr}
 use mathlib.Core.List.{List, [], ◌∷◌, ◌++◌, append_assoc, append-nil}
 use lib.Dec.{leb}
-use lib.ListN.{length, take, drop, get_or, length-append, drop_of_length-le}
-use lib.Seq.{drop-cons, length-take-le}
-use borrow.Author.Tests.{le-leb, lt-leb}
+use lib.ListN.{length, set, take, drop, get_or, length-append, drop_of_length-le}
+use lib.Seq.{sets-eq, drop-cons, length-take-le}
+use borrow.Author.Tests.{le-leb, lt-leb, ne_eqb}
 use native.Mathlib.Nat.{add-zero}
 use native.Mathlib.Omega.{arith}
 use Rattle.lists.proofs.Laws.Search.{lt_or_le}
 use Rattle.slices.specs.Put.{put}
-use Rattle.slices.proofs.Laws.Put.{put_room, put_full, put_long, paste_all}
+use Rattle.slices.proofs.Laws.Put.{put_room, put_full, put_stored, put_long, paste_all}
 use Rattle.std.specs.Prelude.{Option, Some, None}
 use Rattle.std.specs.Option.{unwrap_or}
 use Rattle.std.proofs.lemmas.List.{take_at}
@@ -46,6 +46,17 @@ module _ (space : List ℕ) (kept : ℕ) (line : List ℕ) (h : HoldsLine space 
           longer = λ m. absurd (omega (arith, rw (paste_all kept space more l) at m));
         })
   ]
+
+-- One byte more, in a space with room and in one without.
+module _ (space : List ℕ) (kept byte : ℕ) (line : List ℕ) (h : HoldsLine space kept line) where
+  pub holds_more : kept < length space → HoldsLine (set space kept byte) (kept + 1) (line ++ (byte ∷ []))
+  holds_more l =
+      let room : kept + 1 ≤ length space = omega arith in
+      holds_put space kept line h (byte ∷ []) (set space kept byte) (kept + 1) (put_stored kept space (byte ∷ []) (set space kept byte) room
+      (sets-eq (byte ∷ []) space kept room))
+
+  pub holds_no_more : length space ≤ kept → HoldsLine space (length space + 1) (line ++ (byte ∷ []))
+  holds_no_more l = holds_put space kept line h (byte ∷ []) space (length space + 1) (sym (put_full kept space (byte ∷ []) (omega arith)))
 
 pub holds_nothing : (space : List ℕ) → HoldsLine space 0 []
 holds_nothing space = record { whole = λ m. refl; longer = λ m. absurd (omega arith) }
@@ -140,30 +151,48 @@ module _ (bytes space₀ out₀ : List ℕ) (σ₀ : State) (kept₀ : ℕ) wher
             → (e : Desk) × Stands (0, out₀) e σ' space 0 t × (taken_up (length space₀) (0, out₀) e (drop (i + 1) bytes) ≡ all)
         go (e, h, q) = (fed_byte (length space₀) e (get_or bytes i 0), answered e h, next_byte e h l room ∙ q)
 
-    -- The bytes before the next newline, or all that are left.
-    pub taking_run : i < length bytes → leb (filled + 8192) (length out) ≡ true → (end : ℕ) → Reaches (is 10) bytes i end
+    -- Bytes up to an index, of which none ends a line.
+    taking_some : leb (filled + 8192) (length out) ≡ true → (end : ℕ) → i ≤ end → end ≤ length bytes
+        → ((k : ℕ) → i ≤ k → k < end → is 10 (get_or bytes k 0) ≡ false)
         → (space' : List ℕ) (kept' : ℕ) → (kept', space') ≡ put (kept, space) (take (end - i) (drop i bytes))
         → TakingUp bytes space₀ out₀ σ₀ kept₀ end σ space' kept' (filled, out)
-    taking_run l room end r space' kept' g = record {
-      within = r.within;
+    taking_some room end onward within passed space' kept' g = record {
+      within = within;
       space_long = ap (λ (s : ℕ × List ℕ). length s.1) g ∙ put_long (kept, space) (take (end - i) (drop i bytes)) ∙ w.space_long;
       out_long = w.out_long;
       goes = λ d h. go (w.goes d h);
     }
       where
-        onward : i + (end - i) ≡ end
-        onward = omega (arith, r.onward)
+        upto : i + (end - i) ≡ end
+        upto = omega (arith, onward)
 
         go : {all : Desk × List ℕ} → (e : Desk) × Stands (0, out₀) e σ space kept (filled, out) × (taken_up (length space₀) (0, out₀) e (drop i bytes) ≡ all)
             → (e : Desk) × Stands (0, out₀) e σ space' kept' (filled, out) × (taken_up (length space₀) (0, out₀) e (drop end bytes) ≡ all)
         go (e, h, q) =
             let test : leb ((puts (0, out₀) e.text).0 + 8192) (length out₀) ≡ true = rw (← h.handed, ← w.out_long) room in
-            let run = run_taken (length space₀) (0, out₀) bytes (end - i) i e (omega (arith, r.onward, r.within))
-            (λ k a b. r.passed k a (omega (arith, r.onward))) test in (
+            let run = run_taken (length space₀) (0, out₀) bytes (end - i) i e (omega (arith, onward, within)) (λ k a b. passed k a (omega (arith, onward))) test in (
               longer e (take (end - i) (drop i bytes)),
               record { at = record { state = h.at.state; held = holds_put space kept e.line h.at.held _ space' kept' g }; handed = h.handed },
-              sym (rw onward at run) ∙ q,
+              sym (rw upto at run) ∙ q,
             )
+
+    -- One byte, and the bytes before the next newline or all that are left.
+    pub taking_byte : i < length bytes → leb (filled + 8192) (length out) ≡ true → (get_or bytes i 0 ≡ 10 → ⊥)
+        → (space' : List ℕ) (kept' : ℕ) → (kept', space') ≡ puts (kept, space) ((get_or bytes i 0 ∷ []) ∷ [])
+        → TakingUp bytes space₀ out₀ σ₀ kept₀ (i + 1) σ space' kept' (filled, out)
+    unfolding puts
+    taking_byte l room other space' kept' g = taking_some room (i + 1) (omega arith) (omega arith) alone space' kept' (rw (one, drop-cons bytes i 0 l) g)
+      where
+        one : i + 1 - i ≡ 1
+        one = omega arith
+
+        alone : (k : ℕ) → i ≤ k → k < i + 1 → is 10 (get_or bytes k 0) ≡ false
+        alone k a b = let e : k ≡ i = omega arith in rw e (ne_eqb _ _ other)
+
+    pub taking_run : i < length bytes → leb (filled + 8192) (length out) ≡ true → (end : ℕ) → Reaches (is 10) bytes i end
+        → (space' : List ℕ) (kept' : ℕ) → (kept', space') ≡ put (kept, space) (take (end - i) (drop i bytes))
+        → TakingUp bytes space₀ out₀ σ₀ kept₀ end σ space' kept' (filled, out)
+    taking_run l room end r = taking_some room end (omega (arith, r.onward)) r.within r.passed
 
     -- Where no byte is left, or no room, what stands is what all come to.
     pub taken_all : length bytes ≤ i → AllTaken bytes space₀ out₀ σ₀ kept₀ i σ space kept (filled, out)
