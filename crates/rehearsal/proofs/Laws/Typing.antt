@@ -176,7 +176,7 @@ module _ (bytes space₀ out₀ : List ℕ) (σ₀ : State) (kept₀ : ℕ) wher
               sym (rw upto at run) ∙ q,
             )
 
-    -- One byte, and the bytes before the next newline or all that are left.
+    -- One byte that ends no line, whatever stands behind it.
     pub taking_byte : i < length bytes → leb (filled + 8192) (length out) ≡ true → (get_or bytes i 0 ≡ 10 → ⊥)
         → (space' : List ℕ) (kept' : ℕ) → (kept', space') ≡ puts (kept, space) ((get_or bytes i 0 ∷ []) ∷ [])
         → TakingUp bytes space₀ out₀ σ₀ kept₀ (i + 1) σ space' kept' (filled, out)
@@ -189,6 +189,7 @@ module _ (bytes space₀ out₀ : List ℕ) (σ₀ : State) (kept₀ : ℕ) wher
         alone : (k : ℕ) → i ≤ k → k < i + 1 → is 10 (get_or bytes k 0) ≡ false
         alone k a b = let e : k ≡ i = omega arith in rw e (ne_eqb _ _ other)
 
+    -- The bytes before the next newline, or all that are left.
     pub taking_run : i < length bytes → leb (filled + 8192) (length out) ≡ true → (end : ℕ) → Reaches (is 10) bytes i end
         → (space' : List ℕ) (kept' : ℕ) → (kept', space') ≡ put (kept, space) (take (end - i) (drop i bytes))
         → TakingUp bytes space₀ out₀ σ₀ kept₀ end σ space' kept' (filled, out)
